@@ -1,0 +1,4 @@
+pub mod Meaning
+pub mod Overlaps
+pub mod Faults
+pub mod Lines

@@ -1,0 +1,3 @@
+pub mod AscendingLists
+pub mod CommaLists
+pub mod NumberWords

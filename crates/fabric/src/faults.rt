@@ -1,6 +1,8 @@
 //! Why a fabric's description is refused.
 ghost use mathlib.Core.Path.{_≡_};
-ghost use Rattle.fabric.specs.Faults.{numbered};
+ghost use Rattle.std.specs.declared.option.Option.the-variants.{Some};
+ghost use Rattle.fabric.specs.Faults.{numbered, fault-text};
+use std::fmt;
 
 #[derive(Clone, Copy, PartialEq, Eq, Debug)]
 pub enum FabricFault {
@@ -15,6 +17,18 @@ impl FabricFault {
     {
         match self {
             FabricFault::OutsideLimits => 2,
+        }
+    }
+}
+
+/// `no`, the number and its values, as the programs print it.
+pub impl fmt::Display for FabricFault as FabricFaultDisplay {
+    ghost shown = { λ fault. Some (fault-text fault) };
+
+    fn fmt<W: fmt::Write>(&self, f: &mut fmt::Formatter<W>) -> fmt::Result {
+        let number = self.number();
+        match self {
+            FabricFault::OutsideLimits => write!(f, "no {number}"),
         }
     }
 }

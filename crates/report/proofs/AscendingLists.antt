@@ -42,17 +42,17 @@ module _ (P : ℕ → Type 0) where
     pub taken-in : Ascending (Below (n + 1)) (ks ++ n ∷ [])
     taken-in = record {
       rises = λ i j h l. ⊎-elim
-      (λ e. omega (arith, e .1, before i (omega arith), old .rises i j h (e .0)))
-      (λ e. omega (arith, e .1, before i (omega (arith, e .0)), old .only i (omega (arith, e .0)) .0))
-      (place j l);
+          (λ e. omega (arith, e .1, before i (omega arith), old .rises i j h (e .0)))
+          (λ e. omega (arith, e .1, before i (omega (arith, e .0)), old .only i (omega (arith, e .0)) .0))
+          (place j l);
       only = λ i l. ⊎-elim
-      (λ e. let o = old .only i (e .0) in (omega (arith, e .1, o .0), subst P (sym (e .1)) (o .1)))
-      (λ e. (omega (arith, e .1), subst P (sym (e .1)) here))
-      (place i l);
+          (λ e. let o = old .only i (e .0) in (omega (arith, e .1, o .0), subst P (sym (e .1)) (o .1)))
+          (λ e. (omega (arith, e .1), subst P (sym (e .1)) here))
+          (place i l);
       all = λ k h. ⊎-elim
-      (λ e. (length ks, omega (arith, length-push ks n), at-end ∙ sym (e .1)))
-      (λ e. let a = old .all k (omega (arith, h .0, e .1), h .1) in (a .0, omega (arith, a .1, length-push ks n), before (a .0) (a .1) ∙ a .2))
-      (eqb-tells k n);
+          (λ e. (length ks, omega (arith, length-push ks n), at-end ∙ sym (e .1)))
+          (λ e. let a = old .all k (omega (arith, h .0, e .1), h .1) in (a .0, omega (arith, a .1, length-push ks n), before (a .0) (a .1) ∙ a .2))
+          (eqb-tells k n);
     }
 
   pub all-of-them : {n : ℕ} {ks : List ℕ} → Ascending (Below n) ks → ((k : ℕ) → P k → k < n) → Ascending P ks

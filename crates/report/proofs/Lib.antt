@@ -1,3 +1,4 @@
 pub mod AscendingLists
 pub mod CommaLists
 pub mod NumberWords
+pub mod RequestWords

@@ -3,3 +3,4 @@ pub mod commas;
 pub mod lines;
 pub mod links;
 pub mod numbers;
+pub mod requests;

@@ -27,7 +27,12 @@ pub fn route_line<F: Fabric>(heap: Global, fabric: &F, pair: Pair) -> Result<Str
 }
 
 /// The line of two pairs whose routes overlap: the links that both cross. None where they do not.
-pub fn overlap_line<F: Fabric>(heap: Global, fabric: &F, one: Pair, other: Pair) -> Result<Option<String>, AllocError>
+pub fn overlap_line<F: Fabric>(
+    heap: Global,
+    fabric: &F,
+    one: Pair,
+    other: Pair,
+) -> Result<Option<String>, AllocError>
     ensures { λ r. ⌜ made r (λ found. Cases found (Overlap (F·Fabric .meaning (now (fabric .entry))) one other → ⊥) (λ line. Overlap (F·Fabric .meaning (now (fabric .entry))) one other × Overlap-line (F·Fabric .meaning (now (fabric .entry))) one other (string-bytes line))) ⌝ }
 {
     let links = shared_links(heap, fabric, one, other)?;
@@ -39,5 +44,10 @@ pub fn overlap_line<F: Fabric>(heap: Global, fabric: &F, one: Pair, other: Pair)
     let source = other.source;
     let destination = other.destination;
     let list = Commas(links.as_slice());
-    Ok(Some(format!(heap, "{from}->{to} and {source}->{destination} share {list}")?))
+    Ok(Some(
+        format!(
+            heap,
+            "{from}->{to} and {source}->{destination} share {list}"
+        )?,
+    ))
 }

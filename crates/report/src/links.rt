@@ -10,7 +10,12 @@ use std::alloc::AllocError;
 use std::alloc::Global;
 
 /// The links that the routes of both pairs cross, ascending. Of a pair and itself, the links of its route.
-pub fn shared_links<F: Fabric>(heap: Global, fabric: &F, one: Pair, other: Pair) -> Result<Vec<u16>, AllocError>
+pub fn shared_links<F: Fabric>(
+    heap: Global,
+    fabric: &F,
+    one: Pair,
+    other: Pair,
+) -> Result<Vec<u16>, AllocError>
     ensures { λ r. ⌜ made r (λ links. Ascending (Shared (F·Fabric .meaning (now (fabric .entry))) one other) (vec-items links)) ⌝ }
 {
     let mut links = Vec::new(heap);

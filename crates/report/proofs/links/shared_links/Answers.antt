@@ -14,7 +14,7 @@ loop-link-holds g c = rw (c .new-links .ensures .items) (none-yet _)
 pub loop-link-again : need.loop-link-again
 loop-link-again g c =
     elim (c .if-shared .came) [
-      then-shared·in-Continue-push w ↦ let pushed = chosen _ _ _ _ (w .push .ensures .items) (ap isOk (w .in-Continue-push .was tt)) in rw (ap vec-items (w .links-is) ∙ pushed) (taken-in _ (c .loop-link .inv) (c .shared .ensures .0 (w .if-shared .taken)))
+      | then-shared·in-Continue-push w ↦ let pushed = chosen _ _ _ _ (w .push .ensures .items) (ap isOk (w .in-Continue-push .was tt)) in rw (ap vec-items (w .links-is) ∙ pushed) (taken-in _ (c .loop-link .inv) (c .shared .ensures .0 (w .if-shared .taken)))
       | else-shared w ↦ rw (w .links-is) (left-out _ (c .loop-link .inv) (not-from-decides _ (c .shared .ensures) (w .if-shared .left)))
     ]
 

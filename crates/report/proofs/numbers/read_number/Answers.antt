@@ -17,7 +17,7 @@ plain : (c : After-ok) → 1 < length (c .args .word .now) → 49 ≤ getD (c .a
 plain c long =
     let same = c .as-bytes-bytes .ensures .value in
     elim (c .else-bytes-gt1 .came) [
-      else-bytes-gt1·by·then-bytes-gt1·else-bytes-lt49 w ↦ omega (arith, w .if-bytes-lt49 .left, ap (λ l. getD l 0 0) same)
+      | else-bytes-gt1·by·then-bytes-gt1·else-bytes-lt49 w ↦ omega (arith, w .if-bytes-lt49 .left, ap (λ l. getD l 0 0) same)
       | else-bytes-gt1·by·else-bytes-gt1 w ↦ absurd (omega (arith, w .if-bytes-gt1 .left, ap length same))
     ]
 

@@ -1,1 +1,4 @@
 pub mod LineLaws
+pub mod TreeLaws
+pub mod TreeFills
+pub mod SpurLaws

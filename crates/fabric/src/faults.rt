@@ -8,6 +8,8 @@ use std::fmt;
 pub enum FabricFault {
     /// 2: a description outside its limits.
     OutsideLimits,
+    /// 18: a module that does not fit the fabric below.
+    Misfit,
 }
 
 impl FabricFault {
@@ -17,6 +19,7 @@ impl FabricFault {
     {
         match self {
             FabricFault::OutsideLimits => 2,
+            FabricFault::Misfit => 18,
         }
     }
 }
@@ -28,7 +31,7 @@ pub impl fmt::Display for FabricFault as FabricFaultDisplay {
     fn fmt<W: fmt::Write>(&self, f: &mut fmt::Formatter<W>) -> fmt::Result {
         let number = self.number();
         match self {
-            FabricFault::OutsideLimits => write!(f, "no {number}"),
+            FabricFault::OutsideLimits | FabricFault::Misfit => write!(f, "no {number}"),
         }
     }
 }

@@ -5,8 +5,11 @@ ghost use Rattle.fabric.specs.Meaning.{Meaning, Keeps-routes};
 
 pub mod faults;
 pub mod lines;
+pub mod modules;
 pub mod overlaps;
 pub mod pairs;
+pub mod spurs;
+pub mod trees;
 
 use crate::pairs::Pair;
 

@@ -38,9 +38,7 @@ pub impl Fabric for Line as LineFabric {
     }
 
     fn routed(&self, pair: Pair) -> bool {
-        pair.source < self.terminals
-            && pair.destination < self.terminals
-            && pair.source != pair.destination
+        pair.two_of(self.terminals)
     }
 
     fn crosses(&self, pair: Pair, link: u16) -> bool {

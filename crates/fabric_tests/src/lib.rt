@@ -1,0 +1,5 @@
+//! The tests of `fabric`, in a crate of their own so that the library is proved once.
+#[cfg(test)]
+mod spurs;
+#[cfg(test)]
+mod trees;

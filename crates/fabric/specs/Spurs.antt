@@ -44,6 +44,11 @@ joinable s d =
 abbrev pub size-of : Meaning → Size
 size-of m = record { terminals = m .terminals; links = m .links }
 
+-- the size of the fabric with the module; as it was if the module may not be joined
+abbrev pub joined-size : Size → Module → Size
+joined-size s d =
+    cond (joinable s d) (record { terminals = s .terminals + d .count; links = s .links + 2 }) s
+
 -- the module's terminals are numbered on from those of the fabric
 abbrev pub in-module : Size → Module → ℕ → Bool
 in-module s d a = leb (s .terminals) a && ltb a (s .terminals + d .count)

@@ -1,8 +1,7 @@
 //! The spur: a module's terminals, joined to one terminal of the fabric below, the port, by a link out of the module
 //! and a link into it. A spur is a fabric, so a spur may stand on a spur.
 ghost use mathlib.Core.Path.{_≡_};
-ghost use mathlib.Core.Bool.{_&&_};
-ghost use Rattle.fabric.specs.Spurs.{Judged, joinable, size-of, in-module, from-port, to-port, reaches, crossed-with, spurred, spur-of, Spur-laws};
+ghost use Rattle.fabric.specs.Spurs.{Judged, size-of, reaches, crossed-with, spurred, spur-of, Spur-laws};
 use crate::Fabric;
 use crate::Size;
 use crate::faults::FabricFault;
@@ -61,22 +60,15 @@ pub impl<F: Fabric> Fabric for Spur<F> as SpurFabric {
     }
 
     fn size(&self) -> Size {
-        let below = self.below.size();
-        if judge(below, self.module).is_err() {
-            return below;
-        }
-        Size {
-            terminals: below.terminals + self.module.count,
-            links: below.links + 2,
-        }
+        self.module.joined(self.below.size())
     }
 
     fn routed(&self, pair: Pair) -> bool {
         let below = self.below.size();
-        if added(below, self.module, pair.source) {
-            self.reached(from_port(self.module, pair))
-        } else if added(below, self.module, pair.destination) {
-            self.reached(to_port(self.module, pair))
+        if self.module.added(below, pair.source) {
+            self.reached(self.module.from_port(pair))
+        } else if self.module.added(below, pair.destination) {
+            self.reached(self.module.to_port(pair))
         } else {
             self.below.routed(pair)
         }
@@ -84,10 +76,10 @@ pub impl<F: Fabric> Fabric for Spur<F> as SpurFabric {
 
     fn crosses(&self, pair: Pair, link: u16) -> bool {
         let below = self.below.size();
-        if added(below, self.module, pair.source) {
-            self.crosses_with(below.links, from_port(self.module, pair), link)
-        } else if added(below, self.module, pair.destination) {
-            self.crosses_with(below.links + 1, to_port(self.module, pair), link)
+        if self.module.added(below, pair.source) {
+            self.crosses_with(below.links, self.module.from_port(pair), link)
+        } else if self.module.added(below, pair.destination) {
+            self.crosses_with(below.links + 1, self.module.to_port(pair), link)
         } else {
             self.below.crosses(pair, link)
         }
@@ -99,49 +91,5 @@ pub impl<F: Fabric> Fabric for Spur<F> as SpurFabric {
 pub fn fits<F: Fabric>(below: &F, module: Module) -> Result<(), FabricFault>
     ensures { λ r. ⌜ Judged (size-of (F·Fabric .meaning (now (below .entry)))) «module» r ⌝ }
 {
-    judge(below.size(), module)
-}
-
-// The same by the size of the fabric below, on which alone it rests.
-fn judge(below: Size, module: Module) -> Result<(), FabricFault>
-    ensures { λ r. ⌜ Judged below «module» r ⌝ }
-{
-    if module.count < 1 || module.count > 8 {
-        return Err(FabricFault::OutsideLimits);
-    }
-    let room = below.terminals <= 128 - module.count && below.links <= 256 - 2;
-    if module.port < below.terminals && room {
-        Ok(())
-    } else {
-        Err(FabricFault::Misfit)
-    }
-}
-
-// Whether the terminal is one that the module adds.
-fn added(below: Size, module: Module, terminal: u16) -> bool
-    ensures { λ r. ⌜ r ≡ (joinable below «module» && in-module below «module» terminal) ⌝ }
-{
-    judge(below, module).is_ok()
-        && below.terminals <= terminal
-        && terminal < below.terminals + module.count
-}
-
-// What is left of the pair below when its source is in the module.
-fn from_port(module: Module, pair: Pair) -> Pair
-    ensures { λ r. ⌜ r ≡ from-port «module» pair ⌝ }
-{
-    Pair {
-        source: module.port,
-        destination: pair.destination,
-    }
-}
-
-// What is left of the pair below when its destination is in the module.
-fn to_port(module: Module, pair: Pair) -> Pair
-    ensures { λ r. ⌜ r ≡ to-port «module» pair ⌝ }
-{
-    Pair {
-        source: pair.source,
-        destination: module.port,
-    }
+    module.fits(below.size())
 }

@@ -2,3 +2,4 @@ pub mod Spelled
 pub mod Links
 pub mod Lines
 pub mod Requests
+pub mod Piles

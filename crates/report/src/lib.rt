@@ -3,4 +3,5 @@ pub mod commas;
 pub mod lines;
 pub mod links;
 pub mod numbers;
+pub mod piles;
 pub mod requests;

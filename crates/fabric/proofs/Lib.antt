@@ -2,3 +2,11 @@ pub mod LineLaws
 pub mod TreeLaws
 pub mod TreeFills
 pub mod SpurLaws
+pub mod RouteBytes
+pub mod RouteLaws
+pub mod RouteAccepted
+pub mod RouteRefused
+pub mod RouteSteps
+pub mod RouteAnswers
+pub mod RouteKept
+pub mod RouteLinks

@@ -4,4 +4,8 @@ pub mod Overlaps
 pub mod Faults
 pub mod Lines
 pub mod Trees
+pub mod RouteLists
+pub mod RouteReading
+pub mod RouteRefusals
+pub mod RouteChecking
 pub mod Spurs

@@ -8,6 +8,8 @@ use std::fmt;
 pub enum FabricFault {
     /// 2: a description outside its limits.
     OutsideLimits,
+    /// 3: a route list that breaks its layout, first in the field that begins at this place.
+    BadList { place: usize },
     /// 18: a module that does not fit the fabric below.
     Misfit,
 }
@@ -19,6 +21,7 @@ impl FabricFault {
     {
         match self {
             FabricFault::OutsideLimits => 2,
+            FabricFault::BadList { .. } => 3,
             FabricFault::Misfit => 18,
         }
     }
@@ -30,8 +33,10 @@ pub impl fmt::Display for FabricFault as FabricFaultDisplay {
 
     fn fmt<W: fmt::Write>(&self, f: &mut fmt::Formatter<W>) -> fmt::Result {
         let number = self.number();
-        match self {
-            FabricFault::OutsideLimits | FabricFault::Misfit => write!(f, "no {number}"),
+        match *self {
+            FabricFault::OutsideLimits => write!(f, "no {number}"),
+            FabricFault::BadList { place } => write!(f, "no {number} {place}"),
+            FabricFault::Misfit => write!(f, "no {number}"),
         }
     }
 }

@@ -8,6 +8,9 @@ pub mod lines;
 pub mod modules;
 pub mod overlaps;
 pub mod pairs;
+pub mod route_checks;
+pub mod route_lists;
+mod route_scans;
 pub mod spurs;
 pub mod trees;
 

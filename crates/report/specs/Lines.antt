@@ -7,6 +7,7 @@ use Prim.Native.Nat.{ℕ}
 use lib.Chars.{codes}
 use Rattle.std.specs.Written.{decimal}
 use Rattle.fabric.specs.declared.pairs.Pair.{Pair}
+use Rattle.fabric.specs.declared.route_checks.ListSummary.{ListSummary}
 use Rattle.fabric.specs.Meaning.{Meaning}
 use Rattle.fabric.specs.Overlaps.{Shared}
 use Rattle.report.specs.Links.{Ascending}
@@ -26,3 +27,8 @@ Route-line m p line =
 abbrev pub Overlap-line : Meaning → Pair → Pair → List ℕ → Type 0
 Overlap-line m one other line =
     (ks : List ℕ) × Ascending (Shared m one other) ks × (line ≡ pair-then one (codes " and " ++ pair-then other (codes " share " ++ commas ks)))
+
+-- the line of an accepted route list: how many terminals, links and routes
+abbrev pub list-line : ListSummary → List ℕ
+list-line list =
+    codes "ok " ++ (decimal (list .terminals) ++ (codes " " ++ (decimal (list .links) ++ (codes " " ++ decimal (list .routes)))))

@@ -1,14 +1,16 @@
 //! The lines of a report.
+ghost use mathlib.Core.Path.{_≡_};
 ghost use Rattle.std.specs.Of.String.{string-bytes};
 ghost use Rattle.std.specs.Options.{Cases};
 ghost use Rattle.std.specs.Vec.{made};
 ghost use Rattle.fabric.specs.Overlaps.{Overlap};
-ghost use Rattle.report.specs.Lines.{Route-line, Overlap-line};
+ghost use Rattle.report.specs.Lines.{Route-line, Overlap-line, list-line};
 use crate::commas::Commas;
 use crate::commas::CommasDisplay;
 use crate::links::shared_links;
 use fabric::Fabric;
 use fabric::pairs::Pair;
+use fabric::route_checks::ListSummary;
 use std::alloc::AllocError;
 use std::alloc::Global;
 
@@ -50,4 +52,14 @@ pub fn overlap_line<F: Fabric>(
             "{from}->{to} and {source}->{destination} share {list}"
         )?,
     ))
+}
+
+/// The line of an accepted route list: how many terminals, links and routes it has.
+pub fn list_line(heap: Global, list: ListSummary) -> Result<String, AllocError>
+    ensures { λ r. ⌜ made r (λ line. string-bytes line ≡ list-line list) ⌝ }
+{
+    let terminals = list.terminals;
+    let links = list.links;
+    let routes = list.routes;
+    format!(heap, "ok {terminals} {links} {routes}")
 }

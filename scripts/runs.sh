@@ -10,6 +10,8 @@
 #     --- stderr
 #     what it must write to standard error, exactly
 #
+# A program is run in a folder of its own, which has what FOLDER/data has.
+#
 #     scripts/runs.sh [FOLDER]      the cases of FOLDER (tests/runs), after `rt check` or `rt ci`
 #
 # The last line is 'runs: N passed, M failed'; the exit status is 0 only if M is 0 and N is not.
@@ -18,6 +20,7 @@ root=$(cd "$(dirname "$0")/.." && pwd)
 folder=${1:-$root/tests/runs}
 work=$(mktemp -d)
 trap 'rm -rf "$work"' EXIT
+[ -d "$folder/data" ] && cp -r "$folder/data" "$work/data"
 passed=0
 failed=0
 
@@ -31,7 +34,7 @@ for case in "$folder"/*.run; do
     [ -f "$case" ] || continue
     name=$(basename "$case" .run)
     read -r -a words <<< "$(field args "$case")"
-    (cd "$work" && "$root/target/bin/$(field program "$case")" ${words[@]+"${words[@]}"}) > "$work/out" 2> "$work/err" < /dev/null
+    (cd "$work/data" 2> /dev/null || cd "$work"; "$root/target/bin/$(field program "$case")" ${words[@]+"${words[@]}"}) > "$work/out" 2> "$work/err" < /dev/null
     status=$?
     part stdout "$case" > "$work/want-out"
     part stderr "$case" > "$work/want-err"

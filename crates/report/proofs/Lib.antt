@@ -1,5 +1,10 @@
 pub mod AscendingLists
 pub mod CommaLists
+pub mod CommaWords
+pub mod FabricWords
 pub mod NumberWords
+pub mod OptionWords
+pub mod PairWords
 pub mod PileLaws
 pub mod RequestWords
+pub mod WordPlaces

@@ -16,7 +16,7 @@ use Rattle.std.proofs.shelf.Numerals.{Numerals, numerals-by-value, tells-digits
 use Rattle.std.proofs.shelf.Decimals.{decimal-value, decimal-digit, first-decimal, parses-back}
 use Rattle.std.proofs.shelf.Ways.{eqb-tells, leb-tells}
 
-own : Numerals (Digits 10) (value 10)
+pub own : Numerals (Digits 10) (value 10)
 own = numerals-by-value (Digits 10) tells-digits
 
 -- a number of more than one digit begins with 1 to 9

@@ -4,7 +4,7 @@ use native.Mathlib.Omega.{arith}
 use lib.ListN.{length-map}
 use Rattle.std.specs.Of.String.{string-bytes}
 use Rattle.std.proofs.shelf.Lists.{getD-map, getD-past}
-use Rattle.report.proofs.requests.word_at.Needs as need
+use Rattle.report.proofs.words.word_at.Needs as need
 
 pub returns-then-place-words : need.returns-then-place-words
 returns-then-place-words c =

@@ -1,0 +1,17 @@
+pub mod Sets
+pub mod Totals
+pub mod Choices
+pub mod Held
+pub mod Steps
+pub mod Runs
+pub mod Spans
+pub mod Plans
+pub mod Bits
+pub mod Groups
+pub mod Joins
+pub mod Tables
+pub mod Giving
+pub mod Along
+pub mod Lasts
+pub mod Remainders
+pub mod LinkBits

@@ -1,0 +1,11 @@
+pub mod FlowSets
+pub mod Groups
+pub mod Orders
+pub mod FlowOrders
+pub mod Slots
+pub mod Tables
+pub mod Plans
+pub mod Loads
+pub mod Placings
+pub mod Planning
+pub mod LinkSets

@@ -1,5 +1,7 @@
 //! Fabrics: the networks that join a chip's units. A fabric has terminals, links, and for each ordered pair
 //! of terminals either no route or a set of links. It knows nothing of flows, slots or plans.
+#![tactic(auto)]
+
 ghost use Rattle.std.specs.Prelude.{◌≡◌};
 ghost use Rattle.fabric.specs.Meaning.{Meaning, KeepsRoutes};
 

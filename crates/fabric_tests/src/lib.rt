@@ -1,4 +1,6 @@
 //! The tests of `fabric`, in a crate of their own so that the library is proved once.
+#![tactic(auto)]
+
 #[cfg(test)]
 mod route_checks;
 #[cfg(test)]

@@ -1,4 +1,6 @@
 //! Labels: what flows are called. A label names a flow; which labels there are is a kind's to say.
+#![tactic(auto)]
+
 ghost use Rattle.std.specs.Prelude.{◌≡◌, Bool, true};
 
 pub mod directories;

@@ -1,4 +1,6 @@
 //! The planner: which flow may send in which slot, over any fabric.
+#![tactic(auto)]
+
 pub mod any_plans;
 mod any_questions;
 mod booked;

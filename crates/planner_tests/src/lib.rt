@@ -1,4 +1,6 @@
 //! The tests of `planner`, in a crate of their own so that the library is proved once. They use only what is public.
+#![tactic(auto)]
+
 #[cfg(test)]
 mod asking;
 #[cfg(test)]

@@ -1,4 +1,6 @@
 //! What the program `routes` reads and prints: its arguments, and the lines of its report.
+#![tactic(auto)]
+
 pub mod commas;
 pub mod descriptions;
 pub mod lines;

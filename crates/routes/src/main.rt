@@ -1,4 +1,6 @@
 //! Tells which links the routes of a fabric cross, and which routes overlap.
+#![tactic(auto)]
+
 use anyhow::anyhow;
 use fabric::Fabric;
 use fabric::faults::FabricFault;

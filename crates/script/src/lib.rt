@@ -1,4 +1,6 @@
 //! The script of the slot planner: its lines, words and commands, and the text of its answers.
+#![tactic(auto)]
+
 mod arguments;
 pub mod commands;
 pub mod descriptions;

@@ -1,4 +1,6 @@
 //! Sessions: a script is run line after line, on a plan and the labels of its flows.
+#![tactic(auto)]
+
 mod answers;
 mod builds;
 mod calling;

@@ -1,4 +1,6 @@
 //! Runs the script on standard input, and prints the answers to its lines.
+#![tactic(auto)]
+
 ghost use Rattle.std.specs.Prelude.{◌≤◌, length, IfOk};
 
 use anyhow::anyhow;

@@ -1,4 +1,6 @@
 //! Makes thousands of calls on plans in a bad order, and looks after each for what must not be.
+#![tactic(auto)]
+
 mod dice;
 mod drives;
 mod looks;

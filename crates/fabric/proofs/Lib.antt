@@ -1,9 +1,5 @@
 pub mod TreeFills
-pub mod RouteBytes
-pub mod RouteLaws
-pub mod RouteAccepted
 pub mod RouteRefused
 pub mod RouteSteps
 pub mod RouteAnswers
-pub mod RouteKept
 pub mod RouteLinks

@@ -4,11 +4,11 @@ use Rattle.std.specs.List.{flat_map}
 use Rattle.fabric.specs.declared.faults.FabricFault.{FabricFault}
 use Rattle.fabric.specs.RouteLists.{LawfulRoutes, Accepted, AcceptedWith, encode_route}
 use Rattle.fabric.specs.RouteReading.{next_at, routes_from, decoded, first_routes, first_end}
-use Rattle.fabric.specs.RouteRefusals.{HeaderRule, Kept, Reached, RefusedAt.in_header, RefusedAt.in_route, RefusedAt.left_over, RefusedAt, RefusedBy, stated_terminals, stated_links, stated_routes}
+use Rattle.fabric.specs.RouteRefusals.{HeaderRule, Kept, Reached, RefusedAt, RefusedBy, stated_terminals, stated_links, stated_routes}
 use Rattle.fabric.specs.RouteChecking.{HeaderRead, HeaderBroken, RouteBroken}
-use Rattle.fabric.proofs.RouteBytes.{drop_routes, length_routes}
-use Rattle.fabric.proofs.RouteLaws.{lawful_push}
-use Rattle.fabric.proofs.RouteAccepted.{accepted_from}
+use Rattle.fabric.specs.RouteBytes.{drop_routes, length_routes}
+use Rattle.fabric.specs.RouteLaws.{lawful_push}
+use Rattle.fabric.specs.RouteAccepted.{accepted_from}
 use Rattle.fabric.proofs.RouteRefused.{kept_lawful, refused_not_accepted}
 use Rattle.fabric.proofs.RouteSteps.{first_end_more, first_routes_more}
 

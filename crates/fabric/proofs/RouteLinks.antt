@@ -6,9 +6,9 @@ use Rattle.fabric.specs.declared.pairs.Pair.{Pair}
 use Rattle.fabric.specs.RouteLists.{Accepted, among, some_crosses, Distinct}
 use Rattle.fabric.specs.RouteReading.{route_at, first_routes, first_end, Found}
 use Rattle.fabric.specs.RouteRefusals.{stated_routes}
-use Rattle.fabric.proofs.RouteBytes.{routes_split, next_within}
-use Rattle.fabric.proofs.RouteLaws.{crosses_one}
-use Rattle.fabric.proofs.RouteKept.{kept_lawful, kept_whole}
+use Rattle.fabric.specs.RouteBytes.{routes_split, next_within}
+use Rattle.fabric.specs.RouteLaws.{crosses_one}
+use Rattle.fabric.specs.RouteKept.{kept_lawful, kept_whole}
 
 among_push : (k x : ℕ) (xs : List ℕ) → among k xs ≡ false → (x ≡ k → ⊥) → among k (xs ++ x ∷ []) ≡ false
 among_push k x [] none apart = or_from (eqb x k) false (ne_eqb x k apart) refl

@@ -5,10 +5,10 @@ use Rattle.std.proofs.ByRecursion.{All-get_or, All-from_get_or}
 use Rattle.std.proofs.lemmas.Bool.{cases_order}
 use Rattle.fabric.specs.RouteLists.{Route, Lawful, LawfulRoute, LawfulRoutes, Accepted, ends, some_joins}
 use Rattle.fabric.specs.RouteReading.{route_at, next_at, decoded, first_routes, first_end}
-use Rattle.fabric.specs.RouteRefusals.{HeaderRule, header_place, Kept, Reached, RefusedAt, RefusedAt.in_header, RefusedAt.in_route, RefusedAt.left_over, Settled, stated_terminals, stated_links, stated_routes}
-use Rattle.fabric.proofs.RouteBytes.{routes_split, read_back}
-use Rattle.fabric.proofs.RouteLaws.{lawful_middle}
-use Rattle.fabric.proofs.RouteAccepted.{reads_as}
+use Rattle.fabric.specs.RouteRefusals.{HeaderRule, header_place, Kept, Reached, RefusedAt, Settled, stated_terminals, stated_links, stated_routes}
+use Rattle.fabric.specs.RouteBytes.{routes_split, read_back}
+use Rattle.fabric.specs.RouteLaws.{lawful_middle}
+use Rattle.fabric.specs.RouteAccepted.{reads_as}
 
 -- link i of the route at a place is a byte of the whole
 link_at : (bs : List ℕ) (at i : ℕ) → i < get_or bs (at + 2) 0 → get_or (route_at bs at).links i 0 ≡ get_or bs (at + suc (suc (suc i))) 0

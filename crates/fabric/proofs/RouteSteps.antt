@@ -4,8 +4,8 @@ use Rattle.std.proofs.lemmas.Bool.{or_from}
 use Rattle.fabric.specs.declared.pairs.Pair.{Pair}
 use Rattle.fabric.specs.RouteLists.{joins, some_joins}
 use Rattle.fabric.specs.RouteReading.{route_at, next_at, routes_from, end_from, first_routes, first_end}
-use Rattle.fabric.proofs.RouteBytes.{end_more, routes_more, routes_split, next_within}
-use Rattle.fabric.proofs.RouteLaws.{joins_push, joins_here}
+use Rattle.fabric.specs.RouteBytes.{end_more, routes_more, routes_split, next_within}
+use Rattle.fabric.specs.RouteLaws.{joins_push, joins_here}
 
 -- one more route of the first ones, by places
 pub first_end_more : (bs : List ℕ) (n at : ℕ) → at ≡ first_end bs n → next_at bs at ≡ first_end bs (n + 1)

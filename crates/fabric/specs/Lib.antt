@@ -12,3 +12,7 @@ pub mod Spurs
 pub mod LineLaws
 pub mod SpurLaws
 pub mod TreeLaws
+pub mod RouteBytes
+pub mod RouteLaws
+pub mod RouteAccepted
+pub mod RouteKept

@@ -1,5 +1,5 @@
 -- A line keeps its routes.
-use Rattle.std.specs.Prelude.{◌≡◌, ℕ, min, true}
+use Rattle.std.specs.Prelude.{ℕ, min}
 use Rattle.std.proofs.Common.{arith}
 use Rattle.std.proofs.lemmas.Bool.Decides.{nat_tests}
 use Rattle.fabric.specs.Meaning.{KeepsRoutes}

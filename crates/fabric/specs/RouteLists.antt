@@ -1,6 +1,6 @@
 -- What a route list is, the bytes that write it, and the fabric that it describes.
 use Rattle.std.specs.Prelude.{◌≡◌, ℕ, ◌/◌, ◌%◌, ◌<◌, ◌≤◌, Bool, false, ◌&&◌, ◌||◌, List, [], ◌∷◌, ◌++◌, length, ◌==◌}
-use Rattle.std.specs.List.{flat_map, AllByRecursion as All}
+use Rattle.std.specs.List.{flat_map, AllByRecursion}
 use Rattle.fabric.specs.declared.pairs.Pair.{Pair}
 use Rattle.fabric.specs.Meaning.{Meaning}
 
@@ -54,7 +54,7 @@ pub record LawfulRoute (t l : ℕ) (r : Route) : Type 0 where
   pub destination_below : r.destination < t
   pub apart : r.source ≡ r.destination → ⊥
   pub some_link : 1 ≤ length r.links
-  pub links_below : All (λ k. k < l) r.links
+  pub links_below : AllByRecursion (λ k. k < l) r.links
 
 -- no ordered pair comes twice
 abbrev pub Distinct : List Route → Type 0
@@ -63,7 +63,7 @@ Distinct (r ∷ rs) = (some_joins rs (ends r) ≡ false) × Distinct rs
 
 -- the routes keep what routes keep, each alone and all together
 pub record LawfulRoutes (t l : ℕ) (rs : List Route) : Type 0 where
-  pub each : All (LawfulRoute t l) rs
+  pub each : AllByRecursion (LawfulRoute t l) rs
   pub distinct : Distinct rs
 
 abbrev pub TerminalCount : ℕ → Type 0

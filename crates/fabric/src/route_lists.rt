@@ -1,7 +1,9 @@
 //! The route list: a fabric read from the caller's bytes.
 ghost use Rattle.std.specs.Prelude.{◌≡◌};
 ghost use Rattle.fabric.specs.RouteLists.{Listing, Lawful, Accepted, encode, listed, bare};
-ghost use Rattle.fabric.specs.RouteReading.{bytes_meaning};
+ghost use Rattle.fabric.specs.RouteReading.{bytes_meaning, decoded};
+ghost use Rattle.fabric.specs.RouteLaws.{list_keeps};
+ghost use Rattle.fabric.specs.RouteKept.{kept_lawful};
 
 use crate::pairs::Pair;
 use crate::route_checks::{check, wide_number};
@@ -35,6 +37,8 @@ impl<'a> RouteList<'a> {
 
 impl Fabric for RouteList<'_> {
     ghost meaning = { λ list. bytes_meaning list.bytes.now };
+
+    ghost keeps = { λ list. list_keeps (decoded list.bytes.now) (kept_lawful list.bytes.now list.kept) };
 
     fn terminals(&self) -> u16 {
         u16::from(self.bytes[3])

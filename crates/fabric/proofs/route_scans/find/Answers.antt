@@ -16,12 +16,12 @@ loop-passed-preserved c =
     let bs = c.args.bytes.now in
     let this : joins (route_at bs c.loop-passed.at) c.args.pair ≡ false =
     elim c.else-from-pair.branch [ else-from-pair-via-then-from-pair+else-from-pair-2 w ↦ grind (arith, nat_tests) | else-from-pair-via-else-from-pair w ↦ grind (arith, nat_tests) ] in
-    pass_one bs c.args.pair c.loop-passed.-passed c.args.routes c.loop-passed.at c.from-count.result c.loop-passed.invariant.0 c.from-count.ensures c.loop-passed.invariant.1 this c.requires
+    pass_one bs c.args.pair c.loop-passed._passed c.args.routes c.loop-passed.at c.from-count.result c.loop-passed.invariant.0 c.from-count.ensures c.loop-passed.invariant.1 this c.requires
 
 pub returns-then-from-pair-2 : goal.returns-then-from-pair-2
 returns-then-from-pair-2 c =
     let bs = c.args.bytes.now in
-    let i = c.loop-passed.-passed in
+    let i = c.loop-passed._passed in
     let at = c.loop-passed.invariant.0 in
     let this : joins (route_at bs c.loop-passed.at) c.args.pair ≡ true = grind (arith, nat_tests) in
     let here = subst (λ a. joins (route_at bs a) c.args.pair ≡ true) at this in

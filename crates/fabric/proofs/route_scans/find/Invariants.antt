@@ -6,6 +6,6 @@ use Rattle.fabric.proofs.route_scans.find.Given as goal
 -- the routes passed end here, none of them is the pair's, and another fits
 abbrev pub invariant-loop-passed : goal.invariant-loop-passed
 invariant-loop-passed l =
-    (l.at ≡ first_end l.bytes l.-passed)
-    × (some_joins (first_routes l.bytes l.-passed) l.pair ≡ false)
-    × (l.-passed < l.routes → next_at l.bytes l.at ≤ length l.bytes)
+    (l.at ≡ first_end l.bytes l._passed)
+    × (some_joins (first_routes l.bytes l._passed) l.pair ≡ false)
+    × (l._passed < l.routes → next_at l.bytes l.at ≤ length l.bytes)

@@ -1,8 +1,8 @@
 use Rattle.std.proofs.Common.{◌≡◌, ℕ, ◌+◌, ◌-◌, false, List, take, drop, sym, ◌∙◌, arith}
 use Rattle.std.proofs.lemmas.List.{take_all}
 use Rattle.fabric.specs.RouteLists.{among}
-use Rattle.fabric.proofs.RouteKept.{kept_size, kept_whole}
-use Rattle.fabric.proofs.RouteLaws.{crosses_none}
+use Rattle.fabric.specs.RouteKept.{kept_size, kept_whole}
+use Rattle.fabric.specs.RouteLaws.{crosses_none}
 use Rattle.fabric.proofs.RouteLinks.{among_more, among_hit, found_within, found_crosses}
 use Rattle.fabric.proofs.route_lists.RouteListFabric.crosses.Goals as goal
 
@@ -12,16 +12,16 @@ bounds-self-6 c = omega (arith, kept_size c.args.self.now.bytes.now c.args.self.
 pub find-requires : goal.find-requires
 find-requires c = omega (arith, kept_whole c.args.self.now.bytes.now c.args.self.now.kept)
 
-pub returns-in-default : goal.returns-in-default
-returns-in-default c = sym (crosses_none _ c.args.pair c.args.link (sym c.in-default.ensures.whether))
+pub returns-in_default : goal.returns-in_default
+returns-in_default c = sym (crosses_none _ c.args.pair c.args.link (sym c.in_default.ensures.whether))
 
-pub overflow-add-byte-items : goal.overflow-add-byte-items
-overflow-add-byte-items c =
+pub overflow_add-byte-items : goal.overflow_add-byte-items
+overflow_add-byte-items c =
     let within = found_within c.args.self.now.bytes.now c.args.pair _ _ c.args.self.now.kept c.in-Some.ensures.place in
     omega (arith, within)
 
-pub slice-bounds-byte-items-end : goal.slice-bounds-byte-items-end
-slice-bounds-byte-items-end c =
+pub slice_bounds-byte-items-end : goal.slice_bounds-byte-items-end
+slice_bounds-byte-items-end c =
     let within = found_within c.args.self.now.bytes.now c.args.pair _ _ c.args.self.now.kept c.in-Some.ensures.place in
     omega (arith, within)
 

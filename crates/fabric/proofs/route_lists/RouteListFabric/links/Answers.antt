@@ -1,5 +1,5 @@
 use Rattle.std.proofs.Common.{arith}
-use Rattle.fabric.proofs.RouteKept.{kept_size}
+use Rattle.fabric.specs.RouteKept.{kept_size}
 use Rattle.fabric.proofs.route_lists.RouteListFabric.links.Goals as goal
 
 pub bounds-self-4 : goal.bounds-self-4

@@ -1,5 +1,5 @@
 use Rattle.std.proofs.Common.{arith}
-use Rattle.fabric.proofs.RouteKept.{kept_size, kept_whole}
+use Rattle.fabric.specs.RouteKept.{kept_size, kept_whole}
 use Rattle.fabric.proofs.route_lists.RouteListFabric.routed.Goals as goal
 
 pub bounds-self-6 : goal.bounds-self-6

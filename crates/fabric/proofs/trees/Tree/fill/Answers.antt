@@ -12,7 +12,7 @@ pub returns : goal.returns
 returns c =
     copied_whole _ _ _ (grind (arith, nat_tests)) (omega arith) c.loop-at-test.false c.loop-at.invariant
 
-pub invariant-of-self : goal.invariant-of-self
-invariant-of-self c =
+pub invariant_of-self : goal.invariant_of-self
+invariant_of-self c =
     let whole = copied_whole _ _ _ (grind (arith, nat_tests)) (omega arith) c.loop-at-test.false c.loop-at.invariant in
-    (ap tree_size whole.1, (subst TreeLawful (sym whole.1) whole.0, tt))
+    record { sized = ap tree_size whole.1; lawful = subst TreeLawful (sym whole.1) whole.0 }

@@ -5,7 +5,7 @@ use Rattle.std.specs.List.{flat_map}
 use Rattle.fabric.specs.RouteLists.{Listing, Lawful, LawfulRoutes, encode, encode_rest, encode_route}
 use Rattle.fabric.specs.RouteReading.{decoded, first_routes, first_end}
 use Rattle.fabric.specs.RouteRefusals.{HeaderRule, stated_terminals, stated_links, stated_routes}
-use Rattle.fabric.proofs.RouteBytes.{drop_routes, read_back, length_routes}
+use Rattle.fabric.specs.RouteBytes.{drop_routes, read_back, length_routes}
 
 -- what is read of bytes that write a list
 pub record ReadsAs (v : Listing) (bs : List ℕ) : Type 0 where

@@ -3,7 +3,7 @@ use Rattle.std.proofs.Common.{◌≡◌, ℕ, ◌<◌, ◌≤◌, Bool, true, fa
 use Rattle.std.proofs.lemmas.Bool.{or_cases, or_parts, or_from, or_left, or_right, and_parts, and_left, and_from, eqb-true, eq-eqb, true≢false}
 use Rattle.std.proofs.lemmas.Bool.Decides.{nat_tests}
 use Rattle.std.proofs.ByRecursion.{All-push}
-use Rattle.std.specs.List.{AllByRecursion as All}
+use Rattle.std.specs.List.{AllByRecursion}
 use Rattle.fabric.specs.declared.pairs.Pair.{Pair}
 use Rattle.fabric.specs.Meaning.{KeepsRoutes}
 use Rattle.fabric.specs.RouteLists.{Route, Listing, ends, joins, among, some_joins, some_crosses, listed, LawfulRoute, LawfulRoutes, Lawful, Distinct}
@@ -26,12 +26,12 @@ passed true x c d e f = absurd (true≢false e)
 passed false x c d e f = f
 
 -- the route of a pair, with what holds of each route
-pub one_joins : (P : Route → Type 0) (rs : List Route) (p : Pair) → All P rs → some_joins rs p ≡ true → (r : Route) × P r × (joins r p ≡ true)
+pub one_joins : (P : Route → Type 0) (rs : List Route) (p : Pair) → AllByRecursion P rs → some_joins rs p ≡ true → (r : Route) × P r × (joins r p ≡ true)
 one_joins P [] p all e = absurd (true≢false (sym e))
 one_joins P (r ∷ rs) p all e =
     ⊎_elim (λ here. (r, all.0, here)) (λ later. one_joins P rs p all.1 later) (or_cases (joins r p) (some_joins rs p) e)
 
-pub one_crosses : (P : Route → Type 0) (rs : List Route) (p : Pair) (k : ℕ) → All P rs → some_crosses rs p k ≡ true → (r : Route) × P r × (joins r p ≡ true) × (among k r.links ≡ true)
+pub one_crosses : (P : Route → Type 0) (rs : List Route) (p : Pair) (k : ℕ) → AllByRecursion P rs → some_crosses rs p k ≡ true → (r : Route) × P r × (joins r p ≡ true) × (among k r.links ≡ true)
 one_crosses P [] p k all e = absurd (true≢false (sym e))
 one_crosses P (r ∷ rs) p k all e =
     ⊎_elim
@@ -44,7 +44,7 @@ joins_ends r p e =
     let both = and_parts (eqb r.source p.source) (eqb r.destination p.destination) e in
     (eqb-true _ _ both.0, eqb-true _ _ both.1)
 
-among_below : (l k : ℕ) (ks : List ℕ) → All (λ x. x < l) ks → among k ks ≡ true → k < l
+among_below : (l k : ℕ) (ks : List ℕ) → AllByRecursion (λ x. x < l) ks → among k ks ≡ true → k < l
 among_below l k [] all e = absurd (true≢false (sym e))
 among_below l k (x ∷ ks) all e =
     ⊎_elim (λ here. subst (λ y. y < l) (eqb-true x k here) all.0) (λ later. among_below l k ks all.1 later) (or_cases (eqb x k) (among k ks) e)
@@ -61,7 +61,7 @@ first_among : (ks : List ℕ) → 1 ≤ length ks → (k : ℕ) × (among k ks �
 first_among [] h = let z : ⊥ = omega arith in absurd z
 first_among (k ∷ ks) h = (k, or_left (eqb k k) (among k ks) (eq-eqb k k refl))
 
-joins_crosses : (t l : ℕ) (rs : List Route) (p : Pair) → All (LawfulRoute t l) rs → some_joins rs p ≡ true → (k : ℕ) × (some_crosses rs p k ≡ true)
+joins_crosses : (t l : ℕ) (rs : List Route) (p : Pair) → AllByRecursion (LawfulRoute t l) rs → some_joins rs p ≡ true → (k : ℕ) × (some_crosses rs p k ≡ true)
 joins_crosses t l [] p all e = absurd (true≢false (sym e))
 joins_crosses t l (r ∷ rs) p all e =
     ⊎_elim
@@ -133,7 +133,7 @@ distinct_middle [] more r d = refl
 distinct_middle (x ∷ rs) more r d =
     or_from (joins x (ends r)) (some_joins rs (ends r)) (joins_symmetric x r ∙ joins_middle rs more r (ends x) d.0) (distinct_middle rs more r d.1)
 
-all_middle : (P : Route → Type 0) (rs more : List Route) (r : Route) → All P (rs ++ r ∷ more) → P r
+all_middle : (P : Route → Type 0) (rs more : List Route) (r : Route) → AllByRecursion P (rs ++ r ∷ more) → P r
 all_middle P [] more r all = all.0
 all_middle P (x ∷ rs) more r all = all_middle P rs more r all.1
 

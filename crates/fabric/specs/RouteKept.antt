@@ -1,26 +1,28 @@
 -- The bytes that a route list keeps: they are accepted, and what a reader needs of that.
 use Rattle.std.proofs.Common.{◌≡◌, ℕ, ◌<◌, ◌≤◌, false, List, [], ◌∷◌, length, sym, refl, ap, subst, arith}
-use mathlib.Core.Bool.{Bool-set}
-use mathlib.Core.Logic.{∥∥₁_elim}
-use mathlib.Core.HLevel.{¬_prop}
-use native.Mathlib.Bridge.{le_prop}
-use native.Mathlib.Nat.{ℕ_set}
-use Rattle.std.specs.List.{AllByRecursion as All}
+use Rattle.std.proofs.Math.Bool.{Bool-set}
+use Rattle.std.proofs.Math.Logic.{∥∥₁_elim}
+use Rattle.std.proofs.Math.Bridge.{le_prop}
+use Rattle.std.proofs.Math.Nat.{ℕ_set}
+use Rattle.std.specs.List.{AllByRecursion}
 use Rattle.fabric.specs.RouteLists.{Route, Listing, LawfulRoute, Lawful, Distinct, some_joins, ends, Accepted, encode, listed, bare}
 use Rattle.fabric.specs.RouteReading.{decoded, first_end, bytes_meaning}
 use Rattle.fabric.specs.RouteRefusals.{stated_routes}
-use Rattle.fabric.proofs.RouteAccepted.{reads_as}
+use Rattle.fabric.specs.RouteAccepted.{reads_as}
 
 -- being lawful can be shown in one way only
-all_prop : {X : Type 0} (P : X → Type 0) → ((x : X) → IsProp (P x)) → (xs : List X) → IsProp (All P xs)
+all_prop : {X : Type 0} (P : X → Type 0) → ((x : X) → IsProp (P x)) → (xs : List X) → IsProp (AllByRecursion P xs)
 all_prop P each [] a b = refl
 all_prop P each (x ∷ xs) a b = λ i. (each x a.0 b.0 i, all_prop P each xs a.1 b.1 i)
+
+apart_prop : (m n : ℕ) → IsProp (m ≡ n → ⊥)
+apart_prop m n = hlevel
 
 route_prop : (t l : ℕ) (r : Route) → IsProp (LawfulRoute t l r)
 route_prop t l r a b = λ i. record {
   source_below = le_prop a.source_below b.source_below i;
   destination_below = le_prop a.destination_below b.destination_below i;
-  apart = ¬_prop a.apart b.apart i;
+  apart = apart_prop r.source r.destination a.apart b.apart i;
   some_link = le_prop a.some_link b.some_link i;
   links_below = all_prop (λ k. k < l) (λ k. le_prop) r.links a.links_below b.links_below i;
 }

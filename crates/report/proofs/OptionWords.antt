@@ -1,11 +1,11 @@
 -- The words of the options.
-use Rattle.std.proofs.Common.{◌≡◌, ℕ, ◌+◌, ◌*◌, ◌<◌, ◌≤◌, List, [], ◌∷◌, ◌++◌, length, get_or, drop, Some, None, codes, decimal, sym, refl, ap, ◌∙◌, append-nil, arith, length-append, Bor}
+use Rattle.std.proofs.Common.{◌≡◌, ℕ, ◌+◌, ◌<◌, List, [], ◌∷◌, ◌++◌, length, get_or, drop, Some, None, codes, decimal, sym, refl, ap, ◌∙◌, append-nil, arith, length-append, Bor}
 use Rattle.std.proofs.ByRecursion.{All-push}
 use Rattle.std.proofs.lemmas.List.{length_push}
 use Rattle.std.proofs.lemmas.Str.Pattern.{IsSplitOnceResult, split_after, split_parts}
 use Rattle.fabric.specs.declared.modules.Module.{Module}
 use Rattle.report.specs.Requests.{module_word, module_words, ShortModule, IsModule, OptionsTo}
-use Rattle.report.specs.Spelled.{commas, IsNumber}
+use Rattle.report.specs.Spelled.{IsNumber}
 use Rattle.report.proofs.CommaWords.{no_comma, comma_in}
 use Rattle.report.proofs.WordPlaces.{inside, two}
 

@@ -1,6 +1,6 @@
 -- The words of the pairs, read two at a time.
 use Rattle.std.proofs.Common.{◌≡◌, ℕ, ◌+◌, ◌*◌, ◌<◌, ◌≤◌, List, [], ◌∷◌, ◌++◌, length, get_or, drop, decimal, refl, ap, ◌∙◌, append-nil, arith}
-use Rattle.std.specs.List.{AllByRecursion as All}
+use Rattle.std.specs.List.{AllByRecursion}
 use Rattle.std.proofs.ByRecursion.{All-push}
 use Rattle.std.proofs.lemmas.List.{drop_all, length_push}
 use Rattle.fabric.specs.declared.pairs.Pair.{Pair}
@@ -13,7 +13,7 @@ push (q ∷ ps) p rest = ap (λ l. decimal q.source ∷ decimal q.destination �
 
 -- the words from one place up to another are those of the pairs so far
 abbrev pub Read : List (List ℕ) → ℕ → List Pair → ℕ → Type 0
-Read ws from ps at = All ShortPair ps × (at ≡ from + 2 * length ps) × (drop from ws ≡ pair_words ps ++ drop at ws)
+Read ws from ps at = AllByRecursion ShortPair ps × (at ≡ from + 2 * length ps) × (drop from ws ≡ pair_words ps ++ drop at ws)
 
 module _ (ws : List (List ℕ)) (from : ℕ) where
   pub none_read : Read ws from [] from
@@ -26,6 +26,6 @@ module _ (ws : List (List ℕ)) (from : ℕ) where
     before ∙ ap (λ l. pair_words ps ++ l) (two ws at _ _ within first second) ∙ push ps p (drop (at + 2) ws),
   )
 
-  pub no_more : (ps : List Pair) (at : ℕ) → Read ws from ps at → length ws ≤ at → All ShortPair ps × (drop from ws ≡ pair_words ps)
+  pub no_more : (ps : List Pair) (at : ℕ) → Read ws from ps at → length ws ≤ at → AllByRecursion ShortPair ps × (drop from ws ≡ pair_words ps)
   no_more ps at (short, place, before) past =
       (short, before ∙ ap (λ l. pair_words ps ++ l) (drop_all at ws past) ∙ append-nil (pair_words ps))

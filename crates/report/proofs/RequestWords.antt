@@ -1,6 +1,6 @@
 -- Words that are turned away ask for nothing.
-use Rattle.std.proofs.Common.{◌≡◌, ℕ, zero, suc, ◌+◌, ◌-◌, ◌*◌, ◌<◌, ◌≤◌, true, ◌⊎◌, List, [], ◌∷◌, ◌++◌, length, get_or, drop, vec_items, codes, sym, refl, ap, ◌∙◌, subst, inl, inr, ⊎_elim, arith, length-append, length-drop}
-use Rattle.std.specs.List.{AllByRecursion as All}
+use Rattle.std.proofs.Common.{◌≡◌, ℕ, zero, suc, ◌+◌, ◌-◌, ◌*◌, ◌<◌, ◌≤◌, true, List, [], ◌∷◌, ◌++◌, length, get_or, drop, vec_items, codes, sym, refl, ap, ◌∙◌, subst, inl, inr, ⊎_elim, arith, length-drop}
+use Rattle.std.specs.List.{AllByRecursion}
 use Rattle.std.proofs.lemmas.List.{get_or-drop}
 use Rattle.fabric.specs.declared.modules.Module.{Module}
 use Rattle.fabric.specs.declared.pairs.Pair.{Pair}
@@ -9,7 +9,7 @@ use Rattle.report.specs.declared.descriptions.Description.TheVariants.{Line, Tre
 use Rattle.report.specs.declared.misuses.Misuse.{Misuse}
 use Rattle.report.specs.declared.misuses.Misuse.TheVariants.{UnknownFabric, NoDescription, NotNumbers, NotAModule, Unpaired, NotANumber, NoMemory}
 use Rattle.report.specs.Requests.{module_words, fabric_words, pair_words, ShortModule, ShortPair, Describes, wants_pairs, Asks, AskNothing, OptionsTo, FabricTo, IsModule, NamesFabric, TurnedAway}
-use Rattle.report.specs.Spelled.{Short, IsNumber, IsNumbers}
+use Rattle.report.specs.Spelled.{IsNumber, IsNumbers}
 
 -- options on both sides of an equation are as many
 options_same : (ms ks : List Module) (rest more : List (List ℕ)) → module_words ms ++ rest ≡ module_words ks ++ more → (get_or rest 0 [] ≡ codes "--spur" → ⊥) → (get_or more 0 [] ≡ codes "--spur" → ⊥) → rest ≡ more
@@ -19,7 +19,7 @@ options_same (m ∷ ms) [] rest more e none no_more = absurd (no_more (sym (ap (
 options_same (m ∷ ms) (k ∷ ks) rest more e none no_more = options_same ms ks rest more (ap (drop 2) e) none no_more
 
 -- what follows `--spur` is a module where options are read whole
-module_follows : (ms ks : List Module) (rest more : List (List ℕ)) → module_words ms ++ rest ≡ module_words ks ++ more → get_or rest 0 [] ≡ codes "--spur" → (get_or more 0 [] ≡ codes "--spur" → ⊥) → All ShortModule ks → IsModule (get_or rest 1 [])
+module_follows : (ms ks : List Module) (rest more : List (List ℕ)) → module_words ms ++ rest ≡ module_words ks ++ more → get_or rest 0 [] ≡ codes "--spur" → (get_or more 0 [] ≡ codes "--spur" → ⊥) → AllByRecursion ShortModule ks → IsModule (get_or rest 1 [])
 module_follows [] [] rest more e spur no_more short = absurd (no_more (sym (ap (λ l. get_or l 0 []) e) ∙ spur))
 module_follows [] (k ∷ ks) rest more e spur no_more short = (k, short.0, ap (λ l. get_or l 1 []) e)
 module_follows (m ∷ ms) [] rest more e spur no_more short = absurd (no_more (sym (ap (λ l. get_or l 0 []) e)))
@@ -72,7 +72,7 @@ pairs_long : (ps : List Pair) → length (pair_words ps) ≡ 2 * length ps
 pairs_long [] = omega arith
 pairs_long (p ∷ ps) = omega (arith, pairs_long ps)
 
-pairs_numbers : (ps : List Pair) → All ShortPair ps → (i : ℕ) → i < length (pair_words ps) → IsNumber (get_or (pair_words ps) i [])
+pairs_numbers : (ps : List Pair) → AllByRecursion ShortPair ps → (i : ℕ) → i < length (pair_words ps) → IsNumber (get_or (pair_words ps) i [])
 pairs_numbers [] short i within = absurd (omega arith)
 pairs_numbers (p ∷ ps) short zero within = (p.source, short.0.0, refl)
 pairs_numbers (p ∷ ps) short (suc zero) within = (p.destination, short.0.1, refl)
@@ -138,7 +138,7 @@ module _ (ws : List (List ℕ)) where
       (d, [], at, (at, (ms, from, options, describes, place, before), tt, omega arith, refl), inr (all, refl, wants))
 
   -- all the words are read
-  pub whole : (ms : List Module) (d : Description) (ps : List Pair) (at from : ℕ) → OptionsTo ws ms at → from ≡ at + 2 → FabricTo ws d from → All ShortPair ps → drop from ws ≡ pair_words ps → (wants_pairs d ≡ true → 1 ≤ length ps) → Asks ws ms d ps
+  pub whole : (ms : List Module) (d : Description) (ps : List Pair) (at from : ℕ) → OptionsTo ws ms at → from ≡ at + 2 → FabricTo ws d from → AllByRecursion ShortPair ps → drop from ws ≡ pair_words ps → (wants_pairs d ≡ true → 1 ≤ length ps) → Asks ws ms d ps
   whole ms d ps at from (short, place, before) second (ks, start, options, describes, next, fabric) small pairs some =
       let same : at ≡ start = omega arith in record {
         spelled = before ∙ ap (λ l. module_words ms ++ l) (ap (λ n. drop n ws) same ∙ fabric ∙ ap (λ l. fabric_words d ++ l) pairs);

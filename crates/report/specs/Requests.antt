@@ -1,6 +1,6 @@
 -- The arguments of `routes`: which words ask for what, and why others are turned away.
 use Rattle.std.specs.Prelude.{◌≡◌, ℕ, ◌+◌, ◌*◌, ◌<◌, ◌≤◌, Bool, true, false, ◌⊎◌, List, [], ◌∷◌, ◌++◌, length, drop, vec_items, string_bytes, codes, decimal, ◌≢◌, slice_index_or}
-use Rattle.std.specs.List.{AllByRecursion as All}
+use Rattle.std.specs.List.{AllByRecursion}
 use Rattle.fabric.specs.declared.modules.Module.{Module}
 use Rattle.fabric.specs.declared.pairs.Pair.{Pair}
 use Rattle.report.specs.declared.descriptions.Description.{Description}
@@ -51,9 +51,9 @@ wants_pairs (Listed file) = false
 -- the words ask for these pairs on that fabric with these modules
 pub record Asks (words : List (List ℕ)) (ms : List Module) (d : Description) (ps : List Pair) : Type 0 where
   pub spelled : words ≡ module_words ms ++ (fabric_words d ++ pair_words ps)
-  pub modules : All ShortModule ms
+  pub modules : AllByRecursion ShortModule ms
   pub description : Describes d
-  pub pairs : All ShortPair ps
+  pub pairs : AllByRecursion ShortPair ps
   pub some : wants_pairs d ≡ true → 1 ≤ length ps
 
 abbrev pub AskNothing : List (List ℕ) → Type 0
@@ -61,7 +61,7 @@ AskNothing words = (ms : List Module) (d : Description) (ps : List Pair) → Ask
 
 -- What is read of the words up to a place. First the options,
 abbrev pub OptionsTo : List (List ℕ) → List Module → ℕ → Type 0
-OptionsTo words ms at = All ShortModule ms × (at ≡ 2 * length ms) × (words ≡ module_words ms ++ drop at words)
+OptionsTo words ms at = AllByRecursion ShortModule ms × (at ≡ 2 * length ms) × (words ≡ module_words ms ++ drop at words)
 
 -- then the fabric,
 abbrev pub FabricTo : List (List ℕ) → Description → ℕ → Type 0
@@ -78,7 +78,7 @@ abbrev pub PairsTo : List (List ℕ) → Description → List Pair → ℕ → T
 PairsTo words d ps at =
     (from : ℕ)
     × FabricTo words d from
-    × All ShortPair ps
+    × AllByRecursion ShortPair ps
     × (at ≡ from + 2 * length ps)
     × (drop from words ≡ pair_words ps ++ drop at words)
 

@@ -1,6 +1,6 @@
 -- How numbers and their lists are spelled.
 use Rattle.std.specs.Prelude.{◌≡◌, ℕ, ◌^◌, ◌<◌, ◌≤◌, List, [], ◌∷◌, ◌++◌, length, codes, decimal}
-use Rattle.std.specs.List.{flat_map, AllByRecursion as All}
+use Rattle.std.specs.List.{flat_map, AllByRecursion}
 
 -- numbers parted by commas
 abbrev pub commas : List ℕ → List ℕ
@@ -17,7 +17,7 @@ IsNumber word = (n : ℕ) × Short n × (word ≡ decimal n)
 
 -- one number or more
 abbrev pub Numbers : List ℕ → Type 0
-Numbers ns = (1 ≤ length ns) × All Short ns
+Numbers ns = (1 ≤ length ns) × AllByRecursion Short ns
 
 -- the word spells numbers parted by commas
 abbrev pub IsNumbers : List ℕ → Type 0

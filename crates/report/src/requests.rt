@@ -1,6 +1,6 @@
 //! What the user asks for, read from the program's arguments.
 ghost use Rattle.std.specs.Prelude.{◌≡◌, map, drop, string_bytes, MatchResult, ◌≢◌};
-ghost use Rattle.std.specs.List.{AllByRecursion as All};
+ghost use Rattle.std.specs.List.{AllByRecursion};
 ghost use Rattle.report.specs.declared.descriptions.Description.{Description};
 ghost use Rattle.report.specs.declared.misuses.Misuse.TheVariants.{NoMemory};
 ghost use Rattle.report.specs.Requests.{pair_words, ShortPair, Asks, AskNothing, FabricTo, TurnedAway};
@@ -24,7 +24,7 @@ pub struct Request {
 // The pairs that the words from a place on spell, after the fabric: source, destination, source, and so on.
 fn read_pairs(heap: Global, words: &[String], from: usize) -> Result<Vec<Pair>, Misuse>
     requires { (d : Description) × FabricTo (map string_bytes words.now) d from }
-    ensures { MatchResult result (λ ps. All ShortPair ps.items × (drop from (map string_bytes words.now) ≡ pair_words ps.items)) (TurnedAway (map string_bytes words.now)) }
+    ensures { MatchResult result (λ ps. AllByRecursion ShortPair ps.items × (drop from (map string_bytes words.now) ≡ pair_words ps.items)) (TurnedAway (map string_bytes words.now)) }
 {
     let mut pairs = Vec::new(heap);
     let mut at = from;

@@ -1,7 +1,6 @@
 //! Tells which links the routes of a fabric cross, and which routes overlap.
 #![tactic(auto)]
 
-use anyhow::anyhow;
 use fabric::Fabric;
 use fabric::faults::FabricFault;
 use fabric::lines::Line;
@@ -15,10 +14,11 @@ use report::lines::{list_line, overlap_line, route_line};
 use report::piles::Pile;
 use report::requests::{Request, read_request};
 use report::texts::{misuse_text, refusal_text, usage};
+use std::process::ExitCode;
 use std::{env, fs};
 
 // A line for each pair, then one for each two pairs that overlap.
-fn report_on<F: Fabric>(rt: &HostRuntime, fabric: &F, pairs: &[Pair]) -> anyhow::Result<()> {
+fn report_on<F: Fabric>(rt: &HostRuntime, fabric: &F, pairs: &[Pair]) -> anyhow::Result<ExitCode> {
     let heap = rt.alloc();
     for pair in pairs {
         rt.println(route_line(heap, fabric, *pair)?)?;
@@ -30,17 +30,17 @@ fn report_on<F: Fabric>(rt: &HostRuntime, fabric: &F, pairs: &[Pair]) -> anyhow:
             }
         }
     }
-    Ok(())
+    Ok(ExitCode::SUCCESS)
 }
 
 // Why the arguments were turned away, and how the program is called. The run then ends with status 1.
-fn turn_away(rt: &HostRuntime, why: String) -> anyhow::Result<()> {
+fn turn_away(rt: &HostRuntime, why: String) -> anyhow::Result<ExitCode> {
     eprintln!(rt; "routes: {why}")?;
     rt.eprintln(usage())?;
-    Err(anyhow!("turned away"))
+    Ok(ExitCode::FAILURE)
 }
 
-fn refuse(rt: &HostRuntime, fault: FabricFault) -> anyhow::Result<()> {
+fn refuse(rt: &HostRuntime, fault: FabricFault) -> anyhow::Result<ExitCode> {
     turn_away(rt, refusal_text(rt.alloc(), fault)?)
 }
 
@@ -50,7 +50,7 @@ fn report_with<F: Fabric + Drop>(
     fabric: F,
     modules: &[Module],
     pairs: &[Pair],
-) -> anyhow::Result<()> {
+) -> anyhow::Result<ExitCode> {
     let mut pile = Pile::Base(fabric);
     for module in modules {
         if let Err(fault) = module.fits(pile.size()) {
@@ -61,7 +61,7 @@ fn report_with<F: Fabric + Drop>(
     report_on(rt, &pile, pairs)
 }
 
-fn report_on_line(rt: &HostRuntime, terminals: u16, request: &Request) -> anyhow::Result<()> {
+fn report_on_line(rt: &HostRuntime, terminals: u16, request: &Request) -> anyhow::Result<ExitCode> {
     match Line::new(terminals) {
         Ok(line) => report_with(
             rt,
@@ -73,7 +73,11 @@ fn report_on_line(rt: &HostRuntime, terminals: u16, request: &Request) -> anyhow
     }
 }
 
-fn report_on_tree(rt: &HostRuntime, parents: &[u16], request: &Request) -> anyhow::Result<()> {
+fn report_on_tree(
+    rt: &HostRuntime,
+    parents: &[u16],
+    request: &Request,
+) -> anyhow::Result<ExitCode> {
     let mut tree = Tree::new();
     match tree.fill(parents) {
         Ok(()) => report_with(
@@ -87,13 +91,13 @@ fn report_on_tree(rt: &HostRuntime, parents: &[u16], request: &Request) -> anyho
 }
 
 // Tells what a route list has, or where it is refused, and goes on to the pairs.
-fn report_on_list(rt: &HostRuntime, bytes: &[u8], request: &Request) -> anyhow::Result<()> {
+fn report_on_list(rt: &HostRuntime, bytes: &[u8], request: &Request) -> anyhow::Result<ExitCode> {
     let heap = rt.alloc();
     match check(bytes) {
         Ok(list) => rt.println(list_line(heap, list)?)?,
         Err(fault) => {
             rt.println(refusal_text(heap, fault)?)?;
-            return Err(anyhow!("refused"));
+            return Ok(ExitCode::FAILURE);
         }
     }
     let list = RouteList::new(bytes);
@@ -105,17 +109,17 @@ fn report_on_list(rt: &HostRuntime, bytes: &[u8], request: &Request) -> anyhow::
     )
 }
 
-fn report_on_file(rt: &HostRuntime, file: &str, request: &Request) -> anyhow::Result<()> {
+fn report_on_file(rt: &HostRuntime, file: &str, request: &Request) -> anyhow::Result<ExitCode> {
     match fs::read(rt, file) {
         Ok(bytes) => report_on_list(rt, bytes.as_slice(), request),
         Err(error) => {
             eprintln!(rt; "routes: '{file}' cannot be read: {error}")?;
-            Err(anyhow!("no file"))
+            Ok(ExitCode::FAILURE)
         }
     }
 }
 
-fn main(rt: HostRuntime) -> anyhow::Result<()> {
+fn main(rt: HostRuntime) -> anyhow::Result<ExitCode> {
     let heap = rt.alloc();
     let words: Vec<String> = env::args(&rt)?.skip(1).collect(heap)?;
     match read_request(heap, words.as_slice()) {

@@ -1,7 +1,7 @@
 use denote.Text.{Utf8}
 use denote.Shadow.{shadow}
 use Rattle.std.proofs.Common.{◌≡◌, ◌++◌, length, vec_items}
-use Rattle.std.specs.List.{AllByRecursion as All}
+use Rattle.std.specs.List.{AllByRecursion}
 use Rattle.report.specs.Spelled.{Short, IsNumbers}
 use Rattle.report.proofs.CommaWords.{ended}
 use Rattle.report.proofs.commas.read_commas.Given as goal
@@ -10,7 +10,7 @@ use Rattle.report.proofs.commas.read_commas.Given as goal
 abbrev pub invariant-loop-first : goal.invariant-loop-first
 invariant-loop-first l =
     shadow (Utf8 l.rest)
-    × All Short (vec_items l.numbers)
+    × AllByRecursion Short (vec_items l.numbers)
     × (l.word ≡ ended (vec_items l.numbers) ++ l.rest)
     × (IsNumbers l.word → IsNumbers l.rest)
 

@@ -11,6 +11,6 @@ returns-then-not-routed g c =
 
 pub returns : goal.returns
 returns g c =
-    let list = alike (λ k h. h.0) (λ k h. (h, h)) c.in-ok-links.ensures in
-    let same = ap (λ l. pair_then c.args.pair (codes " crosses " ++ commas l)) c.as-slice.ensures.value in
+    let list = alike (λ k h. h.0) (λ k h. (h, h)) c.in_ok-links.ensures in
+    let same = ap (λ l. pair_then c.args.pair (codes " crosses " ++ commas l)) c.as_slice.ensures.value in
     IfOk-weaker _ _ _ (λ line e. inr (sym c.if-not-routed.ensures, (_, list, e ∙ same))) c.format-2.ensures.ok

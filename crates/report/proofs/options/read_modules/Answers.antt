@@ -1,15 +1,17 @@
 use Rattle.std.proofs.Common.{◌≡◌, ◌+◌, [], map, get_or, string_bytes, codes, sym, ◌∙◌, arith}
-use lib.ListN.{length-map}
+use Rattle.std.proofs.lemmas.List.{length-map}
+use Rattle.std.proofs.lemmas.Slice.Eq.{bytes_eq-Decides}
 use Rattle.report.specs.Requests.{module_word}
 use Rattle.report.proofs.OptionWords.{module_some, option_more}
 use Rattle.report.proofs.WordPlaces.{inside}
 use Rattle.report.proofs.options.read_modules.Goals as goal
 
-spur : (c : goal.In-ok-push) → get_or (map string_bytes c.args.words.now) c.loop-module.at [] ≡ codes "--spur"
-spur c = sym c.word-at.ensures ∙ c.eq.ensures.0 c.loop-module-test.true
+spur : (c : goal.In_ok-push) → get_or (map string_bytes c.args.words.now) c.loop-module.at [] ≡ codes "--spur"
+spur c =
+    sym c.word_at.ensures ∙ (bytes_eq-Decides c.word_at.result.now (codes "--spur")).0 (sym c.eq.ensures ∙ c.loop-module-test.true)
 
-word : (c : goal.In-ok-push) → get_or (map string_bytes c.args.words.now) (c.loop-module.at + 1) [] ≡ module_word c.in-Some.«module»
-word c = sym c.word-at-in-loop-module.ensures ∙ c.in-Some.ensures.1
+word : (c : goal.In_ok-push) → get_or (map string_bytes c.args.words.now) (c.loop-module.at + 1) [] ≡ module_word c.in-Some.«module»
+word c = sym c.word_at-in-loop-module.ensures ∙ c.in-Some.ensures.1
 
 pub loop-module-smaller : goal.loop-module-smaller
 loop-module-smaller c =
@@ -18,4 +20,4 @@ loop-module-smaller c =
 
 pub loop-module-preserved : goal.loop-module-preserved
 loop-module-preserved c =
-    rw c.in-ok-push.ensures.items (option_more _ _ _ _ c.loop-module.invariant (spur c) c.in-Some.ensures.0 (word c))
+    rw c.in_ok-push.ensures.items (option_more _ _ _ _ c.loop-module.invariant (spur c) c.in-Some.ensures.0 (word c))

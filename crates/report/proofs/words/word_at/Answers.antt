@@ -1,11 +1,11 @@
 use Rattle.std.proofs.Common.{[], map, string_bytes, sym, ap, ◌∙◌, arith}
-use lib.ListN.{length-map}
+use Rattle.std.proofs.lemmas.List.{length-map}
 use Rattle.std.proofs.lemmas.List.{get_or-map, get_or_past}
 use Rattle.report.proofs.words.word_at.Goals as goal
 
 pub returns-then-place-words : goal.returns-then-place-words
 returns-then-place-words c =
-    c.as-str.ensures.value
+    c.as_str.ensures.value
     ∙ ap string_bytes c.index-words-place.is
     ∙ sym (get_or-map string_bytes _ _ _ [] c.if-place-words.true)
 

@@ -1,6 +1,6 @@
 -- The words of commands.
 use Rattle.std.proofs.Common.{◌≡◌, ℕ, ◌≤◌, List, [], ◌∷◌, length, decimal, refl, ap, arith}
-use Rattle.std.specs.List.{AllByRecursion as All}
+use Rattle.std.specs.List.{AllByRecursion}
 use Rattle.labels.specs.Names.{spelled}
 use Rattle.labels.specs.declared.names.Name.{Name}
 use Rattle.script.specs.declared.commands.Command.{Command}
@@ -23,11 +23,11 @@ name_is name = (kinds.Name, name.spells)
 pub number_is : (n : ℕ) → Short n → IsWord (decimal n)
 number_is n small = (kinds.Number, (n, small, refl))
 
-wanted_are : (flow : Wanted) → ShortWanted flow → All IsWord (wanted_words flow)
+wanted_are : (flow : Wanted) → ShortWanted flow → AllByRecursion IsWord (wanted_words flow)
 wanted_are flow (number, source, destination, demand) =
     (name_is flow.name, (number_is flow.number number, (number_is flow.source source, (number_is flow.destination destination, (number_is flow.demand demand, tt)))))
 
-words_are : (command : Command) → ShortCommand command → All IsWord (command_words command)
+words_are : (command : Command) → ShortCommand command → AllByRecursion IsWord (command_words command)
 words_are (Enrol flow) short = (verb_is verbs.Enrol, wanted_are flow short)
 words_are (Admit flow) short = (verb_is verbs.Admit, wanted_are flow short)
 words_are (Withdraw name) short = (verb_is verbs.Withdraw, (name_is name, tt))

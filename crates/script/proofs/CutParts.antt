@@ -1,13 +1,13 @@
 -- Parts of bytes that end before a stop: a space in a line, byte 10 in a script.
 use Rattle.std.proofs.Common.{◌≡◌, ℕ, ◌+◌, ◌-◌, ◌<◌, ◌≤◌, List, [], ◌∷◌, ◌++◌, length, get_or, take, drop, sym, refl, ap, ◌∙◌, subst, ⊎_elim, arith, length-drop}
-use Rattle.std.specs.List.{AllByRecursion as All}
+use Rattle.std.specs.List.{AllByRecursion}
 use Rattle.std.proofs.ByRecursion.{All-from_get_or}
 use Rattle.std.proofs.lemmas.List.{take-append-drop, drop-drop, drop_all, drop_more, get_or-take, get_or-drop, length-take-le}
 use Rattle.std.proofs.lemmas.Bool.{cases_lt}
 
 -- the stop is not among the bytes
 abbrev pub Free : ℕ → List ℕ → Type 0
-Free stop bytes = All (λ byte. byte ≡ stop → ⊥) bytes
+Free stop bytes = AllByRecursion (λ byte. byte ≡ stop → ⊥) bytes
 
 -- nothing, or a stop and more
 abbrev pub Parted : ℕ → List ℕ → Type 0

@@ -1,6 +1,6 @@
 -- The words of descriptions.
 use Rattle.std.proofs.Common.{◌≡◌, ℕ, ◌-◌, ◌<◌, List, [], ◌∷◌, map, length, get_or, take, drop, decimal, sym, refl, ap, ◌∙◌, subst, arith}
-use Rattle.std.specs.List.{AllByRecursion as All}
+use Rattle.std.specs.List.{AllByRecursion}
 use Rattle.std.proofs.ByRecursion.{All-map, All-weaker}
 use Rattle.script.specs.declared.descriptions.Description.{Description}
 use Rattle.script.specs.declared.descriptions.Description.TheVariants.{Line, Tree, LongTree}
@@ -16,7 +16,7 @@ use Rattle.script.specs.Words.{IsWord, spaced, WordsOf, Short}
 use Rattle.script.proofs.CommandWords.{verb_is, number_is}
 use Rattle.script.proofs.FormWords.{parts, no_verb}
 
-numbers_are : (ns : List ℕ) → All Short ns → All IsWord (map decimal ns)
+numbers_are : (ns : List ℕ) → AllByRecursion Short ns → AllByRecursion IsWord (map decimal ns)
 numbers_are ns short = All-map IsWord decimal ns (All-weaker Short (λ n. IsWord (decimal n)) number_is ns short)
 
 -- the words begin with a verb, and each is a word
@@ -24,7 +24,7 @@ pub record Formed (words : List (List ℕ)) : Type 0 where
   pub verb : Verb
   pub others : List (List ℕ)
   pub first : words ≡ verb_word verb ∷ others
-  pub each : All IsWord others
+  pub each : AllByRecursion IsWord others
 
 formed : (fabric : Description) (words : List (List ℕ)) → Described fabric words → Formed words
 formed (Line terminals) words (short, same) =

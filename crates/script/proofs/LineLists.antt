@@ -1,6 +1,6 @@
 -- Lines of a script: it is lines in one way, and a walk along its bytes 10 finds them.
 use Rattle.std.proofs.Common.{◌≡◌, ℕ, ◌+◌, ◌-◌, ◌<◌, ◌≤◌, List, [], ◌∷◌, ◌++◌, length, get_or, take, drop, sym, refl, ap, ◌∙◌, subst, ⊎_elim, append_assoc, append-nil, arith}
-use Rattle.std.specs.List.{AllByRecursion as All}
+use Rattle.std.specs.List.{AllByRecursion}
 use Rattle.std.proofs.lemmas.List.{drop_all, drop_more}
 use Rattle.std.proofs.lemmas.Bool.{cases_eq}
 use Rattle.script.specs.Lines.{Unbroken, ended, last_line, LinesOf, NextLine, LinesStand}
@@ -70,20 +70,20 @@ module _ (script : List ℕ) (from to : ℕ) (forward : from ≤ to) (within : t
 
 -- a byte before a script
 abbrev Front : ℕ → List (List ℕ) → List ℕ → Type 0
-Front byte whole rest = (w : List (List ℕ)) × (r : List ℕ) × All Unbroken w × Unbroken r × (byte ∷ (ended whole ++ rest) ≡ ended w ++ r)
+Front byte whole rest = (w : List (List ℕ)) × (r : List ℕ) × AllByRecursion Unbroken w × Unbroken r × (byte ∷ (ended whole ++ rest) ≡ ended w ++ r)
 
-front : (byte : ℕ) (whole : List (List ℕ)) (rest : List ℕ) → All Unbroken whole → Unbroken rest → Front byte whole rest
+front : (byte : ℕ) (whole : List (List ℕ)) (rest : List ℕ) → AllByRecursion Unbroken whole → Unbroken rest → Front byte whole rest
 front byte whole rest each unbroken =
     ⊎_elim
     (λ stop. ([] ∷ whole, rest, (tt, each), unbroken, ap (λ b. b ∷ (ended whole ++ rest)) stop))
     (λ other. inside whole each other)
     (cases_eq byte 10)
   where
-    inside : (ls : List (List ℕ)) → All Unbroken ls → (byte ≡ 10 → ⊥) → Front byte ls rest
+    inside : (ls : List (List ℕ)) → AllByRecursion Unbroken ls → (byte ≡ 10 → ⊥) → Front byte ls rest
     inside [] all other = ([], byte ∷ rest, tt, (other, unbroken), refl)
     inside (line ∷ ls) all other = ((byte ∷ line) ∷ ls, rest, ((other, all.0), all.1), unbroken, refl)
 
-some_lines : (script : List ℕ) → (whole : List (List ℕ)) × (rest : List ℕ) × All Unbroken whole × Unbroken rest × (script ≡ ended whole ++ rest)
+some_lines : (script : List ℕ) → (whole : List (List ℕ)) × (rest : List ℕ) × AllByRecursion Unbroken whole × Unbroken rest × (script ≡ ended whole ++ rest)
 some_lines [] = ([], [], tt, tt, refl)
 some_lines (byte ∷ script) =
     let more = some_lines script in
@@ -99,7 +99,7 @@ ends_in (a ∷ line) more (b ∷ rest) unbroken e = ends_in line more rest unbro
 first_ended : (line : List ℕ) (ls : List (List ℕ)) (rest : List ℕ) → ended (line ∷ ls) ++ rest ≡ line ++ (10 ∷ (ended ls ++ rest))
 first_ended line ls rest = simp append_assoc
 
-same_lines : (us vs : List (List ℕ)) (r s : List ℕ) → All Unbroken us → All Unbroken vs → Unbroken r → Unbroken s → ended us ++ r ≡ ended vs ++ s → (us ≡ vs) × (r ≡ s)
+same_lines : (us vs : List (List ℕ)) (r s : List ℕ) → AllByRecursion Unbroken us → AllByRecursion Unbroken vs → Unbroken r → Unbroken s → ended us ++ r ≡ ended vs ++ s → (us ≡ vs) × (r ≡ s)
 same_lines [] [] r s all-us all-vs ur us' e = (refl, e)
 same_lines [] (v ∷ vs) r s all-us all-vs ur us' e = absurd (ends_in v (ended vs ++ s) r ur (e ∙ first_ended v vs s))
 same_lines (u ∷ us) [] r s all-us all-vs ur us' e = absurd (ends_in u (ended us ++ r) s us' (sym e ∙ first_ended u us r))

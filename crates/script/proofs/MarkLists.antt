@@ -1,6 +1,6 @@
 -- Marks that are kept one after another.
 use Rattle.std.proofs.Common.{◌≡◌, ℕ, zero, suc, ◌+◌, ◌<◌, ◌≤◌, ◌⊎◌, List, [], ◌∷◌, ◌++◌, length, get_or, take, drop, set, Some, None, Option, sym, refl, ◌∙◌, subst, inl, inr, arith, MatchOption}
-use Rattle.std.specs.List.{AllByRecursion as All}
+use Rattle.std.specs.List.{AllByRecursion}
 use Rattle.std.proofs.ByRecursion.{All-push}
 use Rattle.std.proofs.lemmas.List.{length_push, get_or_push, get_or_append_left, take_all, drop_all, take_more_set, take-append-le, drop-append-le}
 use Rattle.labels.specs.Spellings.{Spelling}
@@ -27,7 +27,7 @@ still_names words word (k, inside, name) =
 pub a_number : (b : Beyond) (words : List (List ℕ)) (word : List ℕ) → (b ≡ Nothing) ⊎ (b ≡ Numbers) → Past b words → IsNumber word → Past Numbers (words ++ word ∷ [])
 a_number b words word (inl e) past number =
     let none = subst (λ x. Past x words) e past in
-    (omega (arith, length_push words word), subst (λ ws. All IsNumber (ws ++ word ∷ [])) (sym none) (number, tt))
+    (omega (arith, length_push words word), subst (λ ws. AllByRecursion IsNumber (ws ++ word ∷ [])) (sym none) (number, tt))
 a_number b words word (inr e) past number =
     let numbers = subst (λ x. Past x words) e past in
     (omega (arith, length_push words word), All-push IsNumber words word numbers.1 number)

@@ -1,7 +1,7 @@
 -- The parents of a tree, as a loop over the marks reads them.
 use Rattle.std.proofs.Common.{◌≡◌, ℕ, suc, ◌+◌, ◌<◌, ◌≤◌, List, [], ◌∷◌, ◌++◌, map, length, get_or, take, drop, set, codes, decimal, sym, refl, ap, ◌∙◌, subst, ⊎_elim, arith, length-drop, length-take}
 use lib.ListN.{length-map}
-use Rattle.std.specs.List.{AllByRecursion as All}
+use Rattle.std.specs.List.{AllByRecursion}
 use Rattle.std.proofs.ByRecursion.{All-get_or, All-from_get_or, All-append}
 use Rattle.std.proofs.lemmas.List.{take-append-drop, take_all, get_or-take, get_or-drop, get_or-map, map-append, length-take-le, get_or-set_same, get_or-set_other, length-set}
 use Rattle.std.proofs.lemmas.Bool.{cases_eq}
@@ -49,15 +49,15 @@ numbers_stand line (mark ∷ marks) (n ∷ ns) same each =
     (each 0 (omega arith), numbers_stand line marks ns (omega arith) (λ k less. each (suc k) (omega arith)))
 
 -- what the words after `tree` are
-pub tree_numbers : (tree : Description) (words : List (List ℕ)) → Described tree (codes "tree" ∷ words) → (ps : List ℕ) × All Short ps × (words ≡ map decimal ps)
+pub tree_numbers : (tree : Description) (words : List (List ℕ)) → Described tree (codes "tree" ∷ words) → (ps : List ℕ) × AllByRecursion Short ps × (words ≡ map decimal ps)
 tree_numbers (Line terminals) words (short, same) = absurd (omega (arith, ap (λ ws. get_or (get_or ws 0 []) 0 0) same))
 tree_numbers (Tree parents) words (short, same) = (held parents, short, ap (drop 1) same)
 tree_numbers LongTree words (ps, long, short, same) = (ps, short, ap (drop 1) same)
 
-number_in : (ps : List ℕ) (k : ℕ) → k < length ps → All Short ps → (n : ℕ) × Short n × (get_or (map decimal ps) k [] ≡ decimal n)
+number_in : (ps : List ℕ) (k : ℕ) → k < length ps → AllByRecursion Short ps → (n : ℕ) × Short n × (get_or (map decimal ps) k [] ≡ decimal n)
 number_in ps k inside short = (get_or ps k 0, All-get_or Short ps k 0 inside short, get_or-map decimal ps k 0 [] inside)
 
-all_numbers : (words : List (List ℕ)) → All IsNumber words → (ns : List ℕ) × All Short ns × (words ≡ map decimal ns)
+all_numbers : (words : List (List ℕ)) → AllByRecursion IsNumber words → (ns : List ℕ) × AllByRecursion Short ns × (words ≡ map decimal ns)
 all_numbers [] each = ([], tt, refl)
 all_numbers (word ∷ words) ((n, short, same), each) =
     let more = all_numbers words each in
@@ -97,14 +97,14 @@ module _ (line : List ℕ) (marks : List Mark) (beyond : Beyond) (few : length m
     long : length ns ≡ length marks
     long = length-take-le (length marks) room (omega (arith, read.0))
 
-    short : All Short ns
+    short : AllByRecursion Short ns
     short = All-from_get_or Short ns 0 (λ k inside. subst Short (sym (get_or-take (length marks) room k 0 (omega (arith, long)))) (read.1 k (omega (arith, long))).0)
 
     same : (words : List (List ℕ)) → After line marks beyond words → take 127 words ≡ map decimal ns
     same words after =
         same_stand line marks (take 127 words) (map decimal ns) after.marked (numbers_stand line marks ns (sym long) (λ k inside. subst (λ m. Stands line (get_or marks k blank) (decimal m)) (sym (get_or-take (length marks) room k 0 (omega (arith, long)))) (read.1 k (omega (arith, long))).1))
 
-    pub short_tree : beyond ≡ Nothing → (words : List (List ℕ)) → After line marks beyond words → All Short ns × (codes "tree" ∷ words ≡ tree_words ns)
+    pub short_tree : beyond ≡ Nothing → (words : List (List ℕ)) → After line marks beyond words → AllByRecursion Short ns × (codes "tree" ∷ words ≡ tree_words ns)
     short_tree nothing words after =
         let none = subst (λ b. Past b (drop 127 words)) nothing after.past in
         let all = take_all 127 words (omega (arith, ap length none, length-drop 127 words)) in

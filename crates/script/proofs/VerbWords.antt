@@ -1,6 +1,6 @@
 -- The first words of commands are names.
 use Rattle.std.proofs.Common.{◌≡◌, ℕ, ◌≤◌, Bool, true, ◌&&◌, leb, List, [], ◌∷◌, length, IsUtf8, Decides, refl, ⊎_elim, arith}
-use Rattle.std.specs.List.{AllByRecursion as All}
+use Rattle.std.specs.List.{AllByRecursion}
 use Rattle.std.proofs.ByRecursion.{All-get_or, Decides-by_and}
 use Rattle.std.proofs.lemmas.List.{get_or_past}
 use Rattle.std.proofs.lemmas.Bool.{cases_lt, leb-true, le-leb}
@@ -15,7 +15,7 @@ abbrev letters : List ℕ → Bool
 letters [] = true
 letters (byte ∷ bytes) = (leb 97 byte && leb byte 122) && letters bytes
 
-all_letters : (bytes : List ℕ) → Decides (letters bytes) (All Letter bytes)
+all_letters : (bytes : List ℕ) → Decides (letters bytes) (AllByRecursion Letter bytes)
 all_letters =
     Decides-by_and
     (λ byte. leb 97 byte && leb byte 122)

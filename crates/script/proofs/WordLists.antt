@@ -1,6 +1,6 @@
 -- Words parted by one space: a line is so in one way at most, and a walk along its spaces finds it.
 use Rattle.std.proofs.Common.{◌≡◌, ℕ, ◌+◌, ◌-◌, ◌<◌, ◌≤◌, List, [], ◌∷◌, ◌++◌, length, get_or, take, drop, codes, decimal, sym, refl, ap, ◌∙◌, subst, append_assoc, append-nil, arith}
-use Rattle.std.specs.List.{flat_map, AllByRecursion as All}
+use Rattle.std.specs.List.{flat_map, AllByRecursion}
 use Rattle.std.proofs.lemmas.Fmt.{digits_decimal, decimal_nonempty}
 use Rattle.std.proofs.ByRecursion.{All-from_get_or, All-push}
 use Rattle.std.proofs.lemmas.List.{drop_all, drop_more, flat_map_more, length_push}
@@ -35,7 +35,7 @@ after_parted : (words : List (List ℕ)) → Parted 32 (after words)
 after_parted [] = tt
 after_parted (word ∷ words) = refl
 
-same_after : (us vs : List (List ℕ)) → All IsWord us → All IsWord vs → after us ≡ after vs → us ≡ vs
+same_after : (us vs : List (List ℕ)) → AllByRecursion IsWord us → AllByRecursion IsWord vs → after us ≡ after vs → us ≡ vs
 same_after [] [] us vs e = refl
 same_after [] (v ∷ vs) all-us all-vs e = let z : ◌≡◌ {A = ℕ} 0 1 = cc in absurd (omega arith)
 same_after (u ∷ us) [] all-us all-vs e = let z : ◌≡◌ {A = ℕ} 0 1 = cc in absurd (omega arith)
@@ -61,7 +61,7 @@ ended words = flat_map before_space words
 
 -- what is known of a line when the words that stand before a place are marked
 pub record SoFar (line : List ℕ) (from : ℕ) (words : List (List ℕ)) : Type 0 where
-  pub each : All IsWord words
+  pub each : AllByRecursion IsWord words
   pub front : line ≡ ended words ++ drop from line
   pub rest : (all : List (List ℕ)) → WordsOf line all → (more : List (List ℕ)) × WordsOf (drop from line) more
 
@@ -75,7 +75,7 @@ told (first ∷ second ∷ words) word =
     let flat : ended (first ∷ second ∷ words) ++ word ≡ first ++ (32 ∷ (ended (second ∷ words) ++ word)) = simp append_assoc in
     flat ∙ ap (λ l. first ++ (32 ∷ l)) (told (second ∷ words) word)
 
-others_of : (words : List (List ℕ)) (line : List ℕ) → All IsWord words → after words ≡ 32 ∷ line → WordsOf line words
+others_of : (words : List (List ℕ)) (line : List ℕ) → AllByRecursion IsWord words → after words ≡ 32 ∷ line → WordsOf line words
 others_of [] line all e = let z : ◌≡◌ {A = ℕ} 0 1 = cc in absurd (omega arith)
 others_of (word ∷ words) line all e =
     let rest : line ≡ word ++ after words = cc in
@@ -97,7 +97,7 @@ module _ (line : List ℕ) (from to : ℕ) (forward : from ≤ to) (within : to 
   no_word so_far none all is =
       let more = so_far.rest all is in
       let parts = cut more.0 more.1 in
-      none (subst (λ ws. All IsWord ws) parts.1 more.1.each).0
+      none (subst (λ ws. AllByRecursion IsWord ws) parts.1 more.1.each).0
 
   pub one_more : {words : List (List ℕ)} → SoFar line from words → IsWord part → to < length line → SoFar line (to + 1) (words ++ part ∷ [])
   one_more {words} so_far word inside =
@@ -109,7 +109,7 @@ module _ (line : List ℕ) (from to : ℕ) (forward : from ≤ to) (within : to 
         rest = λ all is.
             let more = so_far.rest all is in
             let parts = cut more.0 more.1 in
-            (parts.0, others_of parts.0 (drop (to + 1) line) (subst (λ ws. All IsWord ws) parts.1 more.1.each).1 (parts.2 ∙ space));
+            (parts.0, others_of parts.0 (drop (to + 1) line) (subst (λ ws. AllByRecursion IsWord ws) parts.1 more.1.each).1 (parts.2 ∙ space));
       }
 
   pub last : {words : List (List ℕ)} → SoFar line from words → IsWord part → to ≡ length line → WordsOf line (words ++ part ∷ [])

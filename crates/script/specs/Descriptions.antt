@@ -1,6 +1,6 @@
 -- Descriptions of fabrics, by how they are spelled.
 use Rattle.std.specs.Prelude.{◌≡◌, ℕ, ◌<◌, List, [], ◌∷◌, map, length, take, codes, decimal}
-use Rattle.std.specs.List.{AllByRecursion as All}
+use Rattle.std.specs.List.{AllByRecursion}
 use Rattle.script.specs.declared.descriptions.Description.{Description}
 use Rattle.script.specs.declared.descriptions.Description.TheVariants.{Line, Tree, LongTree}
 use Rattle.script.specs.declared.descriptions.Parents.{Parents}
@@ -19,8 +19,8 @@ tree_words parents = codes "tree" ∷ map decimal parents
 -- the words of a description; those of a tree with too many parents are not kept
 abbrev pub Described : Description → List (List ℕ) → Type 0
 Described (Line terminals) words = Short terminals × (words ≡ line_words terminals)
-Described (Tree parents) words = All Short (held parents) × (words ≡ tree_words (held parents))
-Described LongTree words = (parents : List ℕ) × (127 < length parents) × All Short parents × (words ≡ tree_words parents)
+Described (Tree parents) words = AllByRecursion Short (held parents) × (words ≡ tree_words (held parents))
+Described LongTree words = (parents : List ℕ) × (127 < length parents) × AllByRecursion Short parents × (words ≡ tree_words parents)
 
 -- the line is the spelling of the description
 abbrev pub IsDescription : List ℕ → Description → Type 0

@@ -1,10 +1,10 @@
 -- The lines of a script: each ends with byte 10, the last perhaps without.
 use Rattle.std.specs.Prelude.{◌≡◌, ℕ, ◌<◌, ◌≤◌, List, [], ◌∷◌, ◌++◌, length, drop, ◌≢◌}
-use Rattle.std.specs.List.{flat_map, AllByRecursion as All}
+use Rattle.std.specs.List.{flat_map, AllByRecursion}
 
 -- no byte 10
 abbrev pub Unbroken : List ℕ → Type 0
-Unbroken line = All (λ byte. byte ≢ 10) line
+Unbroken line = AllByRecursion (λ byte. byte ≢ 10) line
 
 -- lines, each with byte 10 after it
 abbrev pub ended : List (List ℕ) → List ℕ
@@ -19,7 +19,7 @@ last_line (byte ∷ bytes) = (byte ∷ bytes) ∷ []
 pub record LinesOf (script : List ℕ) (lines : List (List ℕ)) : Type 0 where
   pub whole : List (List ℕ)
   pub rest : List ℕ
-  pub each : All Unbroken whole
+  pub each : AllByRecursion Unbroken whole
   pub unbroken : Unbroken rest
   pub bytes : script ≡ ended whole ++ rest
   pub all : lines ≡ whole ++ last_line rest

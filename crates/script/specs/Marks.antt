@@ -1,6 +1,6 @@
 -- Marks, and the words that stand at them.
 use Rattle.std.specs.Prelude.{◌≡◌, ℕ, ◌-◌, ◌<◌, ◌≤◌, min, List, [], ◌∷◌, length, take, drop, slice_index_or}
-use Rattle.std.specs.List.{AllByRecursion as All}
+use Rattle.std.specs.List.{AllByRecursion}
 use Rattle.labels.specs.Spellings.{Spelling}
 use Rattle.script.specs.declared.marks.Beyond.{Beyond}
 use Rattle.script.specs.declared.marks.Beyond.TheVariants.{Nothing, Numbers, Names}
@@ -25,7 +25,7 @@ Stand line (mark ∷ marks) (word ∷ words) = Stands line mark word × Stand li
 -- what words there are past those that are marked
 abbrev pub Past : Beyond → List (List ℕ) → Type 0
 Past Nothing words = words ≡ []
-Past Numbers words = (1 ≤ length words) × All IsNumber words
+Past Numbers words = (1 ≤ length words) × AllByRecursion IsNumber words
 Past Names words = (k : ℕ) × (k < length words) × Spelling (slice_index_or words k [])
 
 abbrev pub kept : Marks → List Mark

@@ -4,8 +4,8 @@ ghost use Rattle.std.proofs.Common.{sym, ◌∙◌, rules, arith};
 ghost use Rattle.std.specs.Str.{bytes_eq};
 ghost use Rattle.labels.specs.Names.{spelled};
 ghost use Rattle.labels.specs.Spellings.{Spelling};
+ghost use Rattle.std.specs.Cmp.{partial_equiv_from_equiv};
 ghost use Rattle.std.specs.Cmp.Rules.{comparing};
-ghost use Rattle.std.specs.Cmp as Keys;
 ghost use Rattle.std.proofs.lemmas.Slice.Eq.{bytes_eq-Decides};
 ghost use Rattle.std.proofs.lemmas.Bool.Decides.{same_from_decides, Decides-like};
 
@@ -44,17 +44,20 @@ impl Name {
 
 /// Names are equal exactly when their spellings are.
 impl PartialEq for Name {
-    ghost equals = { λ name other r. Decides r (spelled name ≡ spelled other) };
+    ghost eq = { λ name other. bytes_eq (spelled name) (spelled other) };
 
-    ghost laws = { Keys.partial_equiv_from_equiv (first_of (Prim.search (comparing, rules), Prim.grind (arith, Self.row.coded.inj))) };
+    ghost laws = { partial_equiv_from_equiv (Prim.search (comparing, rules)) };
 
-    fn eq(&self, other: &Name) -> bool {
+    fn eq(&self, other: &Name) -> bool
+        ensures meant { result ≡ bytes_eq (spelled self.now) (spelled other.now) }
+        ensures decides { Decides result (spelled self.now ≡ spelled other.now) }
+    {
         self.as_bytes() == other.as_bytes()
     }
 }
 
 impl Eq for Name {
-    ghost laws = { first_of (Prim.search (comparing, rules), Prim.grind (arith, Self.row.coded.inj)) };
+    ghost laws = { Prim.search (comparing, rules) };
 }
 
 impl Label for Name {

@@ -5,4 +5,4 @@ use Rattle.script.proofs.arguments.number_at.Goals as goal
 
 pub returns-in-Name : goal.returns-in-Name
 returns-in-Name c =
-    λ n small here. apart (decimal n) (subst (λ kind. OfKind kind (decimal n)) (sym c.in-ok-number.ensures.1 ∙ ap word_kind c.in-Name.is) here.kind) (n, small, refl)
+    λ n small here. apart (decimal n) (subst (λ kind. OfKind kind (decimal n)) (sym c.in_ok-number.ensures.1 ∙ ap word_kind c.in-Name.is) here.kind) (n, small, refl)

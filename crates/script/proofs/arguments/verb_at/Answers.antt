@@ -7,4 +7,4 @@ use Rattle.script.proofs.arguments.verb_at.Goals as goal
 
 pub returns-in-Number : goal.returns-in-Number
 returns-in-Number c =
-    λ verb here. apart (verb_word verb) (verb_spelling verb) (subst (λ kind. OfKind kind (verb_word verb)) (sym c.in-ok-bytes.ensures.1 ∙ ap word_kind c.in-Number.is) here.kind)
+    λ verb here. apart (verb_word verb) (verb_spelling verb) (subst (λ kind. OfKind kind (verb_word verb)) (sym c.in_ok-bytes.ensures.1 ∙ ap word_kind c.in-Number.is) here.kind)

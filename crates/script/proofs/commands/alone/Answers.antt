@@ -8,5 +8,5 @@ pub returns-in-empty : goal.returns-in-empty
 returns-in-empty c =
     (refl, λ line. subst (λ marks. Stand line marks []) (sym (nil_from_length c.args.arguments.now (omega (arith, true-eqb, ltb-true)))) tt)
 
-pub returns-in-default : goal.returns-in-default
-returns-in-default c = λ line stand. omega (arith, false-eqb, ltb-false, stand_length line c.args.arguments.now [] stand)
+pub returns-in_default : goal.returns-in_default
+returns-in_default c = λ line stand. omega (arith, false-eqb, ltb-false, stand_length line c.args.arguments.now [] stand)

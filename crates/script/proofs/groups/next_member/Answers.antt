@@ -4,13 +4,13 @@ use Rattle.script.proofs.groups.next_member.Goals as goal
 
 pub returns-then-number-row : goal.returns-then-number-row
 returns-then-number-row c =
-    let place = c.next-place-number.ensures in (
-      a_member c.args.row.now c.args.at c.next-place-number.result place.forward c.if-number-row.true place.before (place.here c.if-number-row.true),
+    let place = c.next_place-number.ensures in (
+      a_member c.args.row.now c.args.at c.next_place-number.result place.forward c.if-number-row.true place.before (place.here c.if-number-row.true),
       place.forward,
       c.if-number-row.true,
     )
 
 pub returns-else-number-row : goal.returns-else-number-row
 returns-else-number-row c =
-    let place = c.next-place-number.ensures in
+    let place = c.next_place-number.ensures in
     no_member c.args.row.now c.args.at c.requires (λ k low high. place.before k low (omega (arith, c.if-number-row.false)))

@@ -9,8 +9,8 @@ returns-then-from-script c = none_left c.args.script.now c.args.from (omega (ari
 
 pub returns : goal.returns
 returns c =
-    let end = c.end-before-end.ensures in
+    let end = c.end_before-end.ensures in
     elim c.if-end-script.branch [
-      | then-end-script w ↦ subst (NextLine _ _ _) (sym w.next-is) (one_more c.args.script.now c.args.from c.end-before-end.result end.forward end.within (omega (arith, c.if-from-script.false)) end.free end.stops w.if-end-script.true)
-      | else-end-script w ↦ subst (NextLine _ _ _) (sym w.next-is) (last c.args.script.now c.args.from c.end-before-end.result end.forward end.within (omega (arith, c.if-from-script.false)) end.free end.stops (omega (arith, end.within, w.if-end-script.false)))
+      | then-end-script w ↦ subst (NextLine _ _ _) (sym w.next-is) (one_more c.args.script.now c.args.from c.end_before-end.result end.forward end.within (omega (arith, c.if-from-script.false)) end.free end.stops w.if-end-script.true)
+      | else-end-script w ↦ subst (NextLine _ _ _) (sym w.next-is) (last c.args.script.now c.args.from c.end_before-end.result end.forward end.within (omega (arith, c.if-from-script.false)) end.free end.stops (omega (arith, end.within, w.if-end-script.false)))
     ]

@@ -7,31 +7,31 @@ use Rattle.script.proofs.MarkLists.{cases_weaker}
 use Rattle.script.proofs.OpeningWords.{opening_is, open_only}
 use Rattle.script.proofs.openings.read_opening.Goals as goal
 
-pub returns-in-err-marks : goal.returns-in-err-marks
-returns-in-err-marks c =
-    rw c.from-residual.ensures (λ period is. c.in-err-marks.ensures _ (opening_is _ period is))
+pub returns-in_err-marks : goal.returns-in_err-marks
+returns-in_err-marks c =
+    rw c.from_residual.ensures (λ period is. c.in_err-marks.ensures _ (opening_is _ period is))
 
-pub returns-in-err-verb-at : goal.returns-in-err-verb-at
-returns-in-err-verb-at c =
-    let marked = c.in-ok-marks.ensures in
-    rw c.from-residual-in-err-verb-at.ensures
-    (λ period is. no_verb _ _ _ _ _ marked.1 marked.2 c.as-slice.ensures (omega (arith, ltb-false)) c.in-err-verb-at.ensures Open (decimal period ∷ []) (opening_is _ period is))
+pub returns-in_err-verb_at-in-len1-up : goal.returns-in_err-verb_at-in-len1-up
+returns-in_err-verb_at-in-len1-up c =
+    let marked = c.in_ok-marks.ensures in
+    rw c.from_residual-in_err-verb_at-in-len1-up.ensures
+    (λ period is. no_verb _ _ _ _ _ marked.1 marked.2 c.as_slice.ensures (omega (arith, ltb-false)) c.in_err-verb_at-in-len1-up.ensures Open (decimal period ∷ []) (opening_is _ period is))
 
 pub returns-in-Open : goal.returns-in-Open
 returns-in-Open c =
-    let marked = c.in-ok-marks.ensures in
-    let here = c.in-ok-verb-at.ensures in
+    let marked = c.in_ok-marks.ensures in
+    let here = c.in_ok-verb_at-in-len1-up.ensures in
     cases_weaker
-    c.sole-number.result
-    c.sole-number.ensures
+    c.sole_number.result
+    c.sole_number.ensures
     (λ none period is.
-    let after = follows _ _ _ _ _ marked.1 marked.2 c.as-slice.ensures (omega (arith, ltb-false)) _ here (opening_words period) (opening_is _ period is) (omega arith) in
+    let after = follows _ _ _ _ _ marked.1 marked.2 c.as_slice.ensures (omega (arith, ltb-false)) _ here (opening_words period) (opening_is _ period is) (omega arith) in
     none period is.0 (search rules))
-    (λ period stand. (stand.0, told_by _ _ _ _ _ marked.1 marked.2 c.as-slice.ensures (omega (arith, ltb-false)) _ here (opening_words period) (omega arith) (ap verb_word (sym c.in-Open.is), search rules)))
+    (λ period stand. (stand.0, told_by _ _ _ _ _ marked.1 marked.2 c.as_slice.ensures (omega (arith, ltb-false)) _ here (opening_words period) (omega arith) (ap verb_word (sym c.in-Open.is), search rules)))
 
-pub returns-in-default : goal.returns-in-default
-returns-in-default c =
-    let marked = c.in-ok-marks.ensures in
-    let here = c.in-ok-verb-at.ensures in
+pub returns-in_default : goal.returns-in_default
+returns-in_default c =
+    let marked = c.in_ok-marks.ensures in
+    let here = c.in_ok-verb_at-in-len1-up.ensures in
     λ period is.
-    c.in-default.not-Open (open_only _ (follows _ _ _ _ _ marked.1 marked.2 c.as-slice.ensures (omega (arith, ltb-false)) _ here (opening_words period) (opening_is _ period is) (omega arith)).0)
+    c.in_default.not-Open (open_only _ (follows _ _ _ _ _ marked.1 marked.2 c.as_slice.ensures (omega (arith, ltb-false)) _ here (opening_words period) (opening_is _ period is) (omega arith)).0)

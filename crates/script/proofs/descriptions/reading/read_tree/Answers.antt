@@ -2,14 +2,14 @@ use Rattle.std.proofs.Common.{arith}
 use Rattle.script.proofs.TreeWords.{one_more, no_number, no_tree, short_tree, long_tree}
 use Rattle.script.proofs.descriptions.reading.read_tree.Goals as goal
 
-pub returns-in-err-room : goal.returns-in-err-room
-returns-in-err-room c =
-    rw c.from-residual.ensures
-    (no_number c.args.line.now c.args.arguments.now c.args.beyond c.requires c.loop-at.at c.loop-at-test.true c.in-err-room.ensures)
+pub returns-in_err-room : goal.returns-in_err-room
+returns-in_err-room c =
+    rw c.from_residual.ensures
+    (no_number c.args.line.now c.args.arguments.now c.args.beyond c.requires c.loop-at.at c.loop-at-test.true c.in_err-room.ensures)
 
 pub loop-at-preserved : goal.loop-at-preserved
 loop-at-preserved c =
-    one_more _ _ _ _ _ (omega (arith, c.requires)) c.loop-at.invariant (omega arith) c.in-ok-room.ensures.1
+    one_more _ _ _ _ _ (omega (arith, c.requires)) c.loop-at.invariant (omega arith) c.in_ok-room.ensures.1
 
 pub returns-in-Nothing : goal.returns-in-Nothing
 returns-in-Nothing c =

@@ -7,15 +7,15 @@ use Rattle.script.proofs.groups.GroupDisplay.fmt.Goals as goal
 pub loop-number-preserved : goal.loop-number-preserved
 loop-number-preserved g c =
     let old = c.loop-number.invariant.1 in
-    let next = c.in-Some-next-member.ensures in
-    let number = c.in-Some-next-member.number in (
+    let next = c.in-Some-next_member.ensures in
+    let number = c.in-Some-next_member.number in (
       omega (arith, next.2),
       (
         old.0 ++ number ∷ [],
         old.1 ∙ ap (λ l. old.0 ++ l) next.0 ∙ sym (append_assoc old.0 (number ∷ []) _),
         λ plain.
             let before = old.2 plain in
-            let more = c.in-ok-write-2.ensures.shows before.plain refl in
+            let more = c.in_ok-write-2.ensures.writes before.plain refl in
             has_written_of_eq _ _ _ _ _ (flat_map_more (λ n. codes "," ++ decimal n) [] old.0 number) (has_written_append _ _ _ _ _ _ before more),
       ),
     )
@@ -24,6 +24,6 @@ pub returns-clause-writes : goal.returns-clause-writes
 returns-clause-writes g c =
     λ plain ok.
     let told = c.loop-number.invariant.1 in
-    let rest = told.1 ∙ ap (λ l. told.0 ++ l) c.in-default-next-member.ensures ∙ append-nil told.0 in
-    let first = c.in-ok-write.ensures.shows plain refl in
+    let rest = told.1 ∙ ap (λ l. told.0 ++ l) c.in_default-next_member.ensures ∙ append-nil told.0 in
+    let first = c.in_ok-write.ensures.writes plain refl in
     has_written_of_eq _ _ _ _ _ (sym (ap commas (c.in-Some.ensures.0 ∙ ap (λ l. c.in-Some.first ∷ l) rest))) (has_written_append _ _ _ _ _ _ first (told.2 first.plain))

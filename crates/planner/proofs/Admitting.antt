@@ -5,7 +5,7 @@ use Rattle.std.proofs.lemmas.Bool.{both_ways, cases_Bool, cases_eq}
 use Rattle.planner.specs.declared.bookings.Booking.{Booking}
 use Rattle.planner.specs.Bookings.{booking_at, kept_route}
 use Rattle.planner.specs.LinkSets.{share}
-use Rattle.planner.specs.Slots.{Earliest, Given}
+use Rattle.planner.specs.Slots.{Given}
 use Rattle.planner.proofs.Memory.{set_other_booked, set_here_booked}
 
 -- the flows that meet the links of a route are those that share one with it

@@ -1,7 +1,7 @@
 -- Single bits of a number, and what the operations on 64-bit numbers do to them.
 -- The laws of the bits of a number: what `&`, `|`, `^`, `!` and `1 << n` do to the membership `bit`.
-use Rattle.std.proofs.Common.{◌≡◌, ℕ, zero, suc, ◌+◌, ◌-◌, ◌*◌, ◌/◌, ◌%◌, ◌^◌, ◌<◌, ◌≤◌, min, max, Bool, true, false, cond, not, ◌&&◌, ◌||◌, T, eqb, ◌⊎◌, sym, refl, ap, ◌∙◌, subst, inl, inr, ⊎_elim, mod-lt, mod-eq_of_lt, mul_comm, eq-or-lt_of_le, one-mul, pow-suc, div-one, arith, eqb→eq, pow_pos, pow_mono, pow-add, shr-shr, eq-eqb, ne_eqb}
-use native.Mathlib.Nat.{div-eq_of_lt, mul-mod_left, mul-mod_right}
+use Rattle.std.proofs.Common.{◌≡◌, ℕ, zero, suc, ◌+◌, ◌-◌, ◌*◌, ◌/◌, ◌%◌, ◌^◌, ◌<◌, ◌≤◌, min, max, Bool, true, false, cond, not, ◌&&◌, ◌||◌, T, eqb, ◌⊎◌, sym, refl, ap, ◌∙◌, subst, inl, inr, ⊎_elim, mod-eq_of_lt, one-mul, pow-suc, div-one, arith, eqb→eq, pow_pos, pow_mono, pow-add, shr-shr, eq-eqb, ne_eqb}
+use native.Mathlib.Nat.{div-eq_of_lt, mul-mod_left}
 use lib.Bits.{bit_and, bit_or, bit_xor, differ, and_step, or_step, xor_step, and_shr, or_shr, xor_shr, and_mask, and_le_l, xor_add_and}
 use lib.Pow.{pow-lt, shl-shr, ones_split, high, ones_lt}
 use lib.Count.{count_leading_zeros}

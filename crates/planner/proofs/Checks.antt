@@ -1,9 +1,9 @@
 -- Checks in their order: what it means that they pass.
-use Rattle.std.proofs.Common.{◌≡◌, ℕ, ◌≤◌, Bool, true, false, cond, not, leb, List, [], ◌∷◌, ◌++◌, is_some, Some, None, Option, sym, refl, ◌∙◌, arith}
+use Rattle.std.proofs.Common.{◌≡◌, ℕ, ◌≤◌, Bool, true, false, cond, not, leb, [], ◌∷◌, ◌++◌, is_some, Some, None, Option, refl, arith}
 use Rattle.std.proofs.lemmas.Bool.{leb-true, not-true}
 use Rattle.fabric.specs.Meaning.{Meaning}
 use Rattle.planner.specs.declared.flows.Flow.{Flow}
-use Rattle.planner.specs.Steps.{Checks, first_failing, Passes, booking_checks, RefusedBy}
+use Rattle.planner.specs.Steps.{Checks, first_failing, Passes, booking_checks}
 
 -- a check that passes, with the checks after it
 passes_on : (b : Bool) (x : Option ℕ) (k : ℕ) → cond b x (Some k) ≡ None → (b ≡ true) × (x ≡ None)

@@ -1,15 +1,15 @@
 -- What is true of every plan that came by calls.
-use Rattle.std.proofs.Common.{◌≡◌, ℕ, ◌<◌, ◌≤◌, Bool, true, false, cond, not, eqb, is_some, Some, None, Option, sym, refl, ap, ◌∙◌, subst, ⊎_elim, arith}
+use Rattle.std.proofs.Common.{◌≡◌, ℕ, ◌<◌, Bool, true, false, cond, not, eqb, is_some, Some, None, Option, sym, refl, ap, ◌∙◌, subst, ⊎_elim, arith}
 use mathlib.Core.Path.{fun_ext}
-use Rattle.std.proofs.lemmas.Bool.{true≢false, false≢true, both_ways, and_parts, and_from, not_from_false, not-true, eq-eqb, eqb-false, ne_eqb, cases_eq, cond-true, cond-false}
-use Rattle.fabric.specs.Meaning.{Meaning, KeepsRoutes}
+use Rattle.std.proofs.lemmas.Bool.{false≢true, both_ways, and_parts, and_from, not_from_false, not-true, eq-eqb, eqb-false, ne_eqb, cases_eq, cond-true, cond-false}
+use Rattle.fabric.specs.Meaning.{KeepsRoutes}
 use Rattle.fabric.specs.Spurs.{spurred, SpurLaws}
 use Rattle.fabric.specs.declared.modules.Module.{Module}
 use Rattle.fabric.specs.SpurLaws.{spurred_keeps, spur_laws}
 use Rattle.planner.specs.declared.flows.Flow.{Flow}
 use Rattle.planner.specs.Bookings.{demand_of, route_on, overlap_of, overlap_mutual}
 use Rattle.planner.specs.LinkSets.{share}
-use Rattle.planner.specs.Planning.{PlacedInOrder}
+use Rattle.planner.specs.Placements.{PlacedInOrder}
 use Rattle.planner.specs.Shown.{Shown, Opened}
 use Rattle.planner.specs.Slots.{count}
 use Rattle.planner.specs.Steps.{load_shown, flows_of, over}

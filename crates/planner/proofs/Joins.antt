@@ -1,8 +1,8 @@
 -- Groups of flows in which two flows are joined, or a flow is parted from the others.
 use Rattle.std.proofs.Common.{◌≡◌, ℕ, ◌<◌, Bool, true, false, cond, ◌&&◌, ◌||◌, eqb, List, length, set, sym, refl, ap, ◌∙◌, ⊎_elim, arith}
 use mathlib.Core.Bool.{and_comm, or_comm}
-use Rattle.std.proofs.lemmas.List.{length-set, get_or-set_same, get_or-set_other}
-use Rattle.std.proofs.lemmas.Bool.{true≢false, eq-eqb, ne_eqb, eqb-true, and_left, and_right, or_from, cases_eq, cond-true, cond-false}
+use Rattle.std.proofs.lemmas.List.{length-set}
+use Rattle.std.proofs.lemmas.Bool.{true≢false, ne_eqb, eqb-true, and_left, and_right, or_from, cases_eq, cond-false}
 use Rattle.planner.specs.declared.flow_sets.FlowSet.{FlowSet}
 use Rattle.planner.specs.FlowSets.{members}
 use Rattle.planner.specs.Groups.{overlapping, is_pair}
@@ -59,22 +59,23 @@ pair_apart one other f apart =
     (cases_eq f one)
 
 -- what joining and parting keep, over any groups
-abbrev pub Mutual : (ℕ → ℕ → Bool) → Type 0
-Mutual ov = ((f g : ℕ) → ov f g ≡ ov g f) × (((f : ℕ) → ov f f ≡ false) × Unit {0})
+pub record Mutual (ov : ℕ → ℕ → Bool) : Type 0 where
+  pub symmetric : (f g : ℕ) → ov f g ≡ ov g f
+  pub apart : (f : ℕ) → ov f f ≡ false
 
 pub joined_mutual : (one other : ℕ) (ov new : ℕ → ℕ → Bool) → (one ≡ other → ⊥) → ((f g : ℕ) → ov f g ≡ ov g f) → ((f : ℕ) → ov f f ≡ false) →
     ((f g : ℕ) → new f g ≡ (is_pair one other f g || ov f g)) → Mutual new
-joined_mutual one other ov new apart turns none is = (
-  λ f g. is f g ∙ ap (λ b. b || ov f g) (pair_turns one other f g) ∙ ap (λ b. is_pair one other g f || b) (turns f g) ∙ sym (is g f),
-  (λ f. is f f ∙ or_from (is_pair one other f f) (ov f f) (pair_apart one other f apart) (none f), tt),
-)
+joined_mutual one other ov new apart turns none is = record {
+  symmetric = λ f g. is f g ∙ ap (λ b. b || ov f g) (pair_turns one other f g) ∙ ap (λ b. is_pair one other g f || b) (turns f g) ∙ sym (is g f);
+  apart = λ f. is f f ∙ or_from (is_pair one other f f) (ov f f) (pair_apart one other f apart) (none f);
+}
 
 pub parted_mutual : (flow : ℕ) (ov new : ℕ → ℕ → Bool) → ((f g : ℕ) → ov f g ≡ ov g f) → ((f : ℕ) → ov f f ≡ false) →
     ((f g : ℕ) → new f g ≡ cond (eqb f flow || eqb g flow) false (ov f g)) → Mutual new
-parted_mutual flow ov new turns none is = (
-  λ f g. is f g ∙ ap (λ b. cond b false (ov f g)) (or_comm (eqb f flow) (eqb g flow)) ∙ ap (cond (eqb g flow || eqb f flow) false) (turns f g) ∙ sym (is g f),
-  (λ f. is f f ∙ ap (cond (eqb f flow || eqb f flow) false) (none f) ∙ never (eqb f flow || eqb f flow), tt),
-)
+parted_mutual flow ov new turns none is = record {
+  symmetric = λ f g. is f g ∙ ap (λ b. cond b false (ov f g)) (or_comm (eqb f flow) (eqb g flow)) ∙ ap (cond (eqb g flow || eqb f flow) false) (turns f g) ∙ sym (is g f);
+  apart = λ f. is f f ∙ ap (cond (eqb f flow || eqb f flow) false) (none f) ∙ never (eqb f flow || eqb f flow);
+}
   where
     never : (b : Bool) → cond b false false ≡ false
     never true = refl

@@ -1,17 +1,17 @@
 -- What the rule of an admission gives of the law.
-use Rattle.std.proofs.Common.{◌≡◌, ℕ, ◌<◌, ◌≤◌, Bool, true, false, cond, leb, ◌⊎◌, List, [], ◌∷◌, Some, None, Ok, Err, Option, sym, refl, ap, ◌∙◌, subst, inl, inr, ⊎_elim, arith}
+use Rattle.std.proofs.Common.{◌≡◌, ℕ, ◌<◌, ◌≤◌, Bool, true, false, cond, [], ◌∷◌, Some, None, Ok, Err, Option, sym, refl, ap, ◌∙◌, subst, arith}
 use mathlib.Core.Path.{fun_ext}
-use Rattle.std.proofs.lemmas.Bool.{false≢true, both_ways, and_parts, leb-true, leb-false, cases_Bool, not-false, cond-true, cond-false}
+use Rattle.std.proofs.lemmas.Bool.{false≢true, and_parts, leb-true, leb-false, not-false}
 use Rattle.planner.specs.declared.calls.Call.TheVariants.{Admit}
 use Rattle.planner.specs.declared.flows.Flow.{Flow}
 use Rattle.planner.specs.declared.plan_faults.PlanFault.{PlanFault}
 use Rattle.planner.specs.Bookings.{route_on, valid_beside}
 use Rattle.planner.specs.Histories.{History, Came, bookings_of}
-use Rattle.planner.specs.Laws.{routes_of, Refusal, Taken, AllTaken, valid_after, Admits}
+use Rattle.planner.specs.Laws.{Taken, AllTaken, valid_after, Admits}
 use Rattle.planner.specs.LinkSets.{share}
 use Rattle.planner.specs.PlanFaults.{numbered}
 use Rattle.planner.specs.Shown.{Shown}
-use Rattle.planner.specs.Slots.{count, taken, ChoiceOf, Earliest}
+use Rattle.planner.specs.Slots.{count, taken, Earliest}
 use Rattle.planner.specs.Steps.{Answer, Step, first_failing, Passes, RefusedBy, booking_checks, enrol_checks, slot_check, admit_checks, valid_slots}
 use Rattle.planner.proofs.Checks.{after_passing}
 use Rattle.planner.proofs.Good.{Good}

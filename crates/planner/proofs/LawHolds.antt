@@ -1,17 +1,14 @@
 -- The law of a plan.
-use Rattle.std.proofs.Common.{◌≡◌, ℕ, ◌<◌, ◌≤◌, Bool, true, false, cond, not, eqb, leb, ◌⊎◌, List, [], ◌∷◌, is_some, Some, None, Ok, Err, Option, sym, refl, ap, ◌∙◌, subst, inl, inr, ⊎_elim, arith}
-use mathlib.Core.Path.{fun_ext}
-use Rattle.std.proofs.lemmas.Bool.{false≢true, both_ways, cases_Bool, cases_eq, eqb-false, ne_eqb, cond-false}
+use Rattle.std.proofs.Common.{◌≡◌, ℕ, ◌<◌, true, false, eqb, [], ◌∷◌, is_some, Some, None, Ok, Err, Option, sym, refl, ap, ◌∙◌, subst, ⊎_elim, arith}
+use Rattle.std.proofs.lemmas.Bool.{false≢true, both_ways, cases_eq, cond-false}
 use Rattle.planner.specs.declared.calls.Call.{Call}
 use Rattle.planner.specs.declared.calls.Call.TheVariants.{Enrol, Admit, Withdraw, Replan, Start, Rest, Fit}
 use Rattle.planner.specs.declared.flows.Flow.{Flow}
-use Rattle.planner.specs.Bookings.{demand_of, route_on, overlap_of}
+use Rattle.planner.specs.Bookings.{demand_of, route_on}
 use Rattle.planner.specs.Histories.{History, Came, bookings_of}
-use Rattle.planner.specs.Laws.{routes_of, Carries, Sound, may_take, OfCall, LawStands}
-use Rattle.planner.specs.LinkSets.{share}
+use Rattle.planner.specs.Laws.{Carries, Sound, may_take, OfCall, LawStands}
 use Rattle.planner.specs.Outcomes.{Made}
 use Rattle.planner.specs.Shown.{Shown}
-use Rattle.planner.specs.Slots.{count}
 use Rattle.planner.specs.Steps.{Answer, Step, Books, Passes, enrol_checks, slot_check, allowed}
 use Rattle.planner.proofs.Checks.{may_book, passes_first}
 use Rattle.planner.proofs.Good.{Good, overlap_from}
@@ -66,20 +63,20 @@ new_keeps s good k f t pass books n slot held = ⊎_elim
 
 -- no call but a re-plan and its own withdrawal takes slots from a flow
 keeps : (s : Shown) → Good s → (c : Call) (a : Answer) (t : Shown) → Step s c a t → (n slot : ℕ) → may_take c n ≡ false → s.holds n slot ≡ true → t.holds n slot ≡ true
-keeps s good (Enrol k f) (Ok u) t st n slot may held = new_keeps s good k f t st.0 st.1 n slot held
-keeps s good (Admit k f) (Ok u) t st n slot may held = new_keeps s good k f t (passes_first (enrol_checks s k f) (slot_check s f ∷ []) st.0) st.1 n slot held
-keeps s good (Withdraw k) (Ok u) t st n slot may held = st.1.holds n slot ∙ cond-false (eqb n k) false (s.holds n slot) may ∙ held
-keeps s good Replan (Ok u) t st n slot may held = absurd (false≢true (sym may))
-keeps s good Start (Ok u) t st n slot may held = ap (λ (x : Shown). x.holds n slot) st ∙ held
-keeps s good Rest (Ok u) t st n slot may held = ap (λ (x : Shown). x.holds n slot) st ∙ held
-keeps s good (Fit d) (Ok u) t st n slot may held = ap (λ (x : Shown). x.holds n slot) st ∙ held
-keeps s good (Enrol k f) (Err e) t st n slot may held = ap (λ (x : Shown). x.holds n slot) st.1 ∙ held
-keeps s good (Admit k f) (Err e) t st n slot may held = ap (λ (x : Shown). x.holds n slot) st.1 ∙ held
-keeps s good (Withdraw k) (Err e) t st n slot may held = ap (λ (x : Shown). x.holds n slot) st.1 ∙ held
-keeps s good Replan (Err e) t st n slot may held = ap (λ (x : Shown). x.holds n slot) st.1 ∙ held
-keeps s good Start (Err e) t st n slot may held = absurd st
-keeps s good Rest (Err e) t st n slot may held = absurd st
-keeps s good (Fit d) (Err e) t st n slot may held = absurd st
+keeps s fine (Enrol k f) (Ok u) t st n slot may held = new_keeps s fine k f t st.0 st.1 n slot held
+keeps s fine (Admit k f) (Ok u) t st n slot may held = new_keeps s fine k f t (passes_first (enrol_checks s k f) (slot_check s f ∷ []) st.0) st.1 n slot held
+keeps s fine (Withdraw k) (Ok u) t st n slot may held = st.1.holds n slot ∙ cond-false (eqb n k) false (s.holds n slot) may ∙ held
+keeps s fine Replan (Ok u) t st n slot may held = absurd (false≢true (sym may))
+keeps s fine Start (Ok u) t st n slot may held = ap (λ (x : Shown). x.holds n slot) st ∙ held
+keeps s fine Rest (Ok u) t st n slot may held = ap (λ (x : Shown). x.holds n slot) st ∙ held
+keeps s fine (Fit d) (Ok u) t st n slot may held = ap (λ (x : Shown). x.holds n slot) st ∙ held
+keeps s fine (Enrol k f) (Err e) t st n slot may held = ap (λ (x : Shown). x.holds n slot) st.1 ∙ held
+keeps s fine (Admit k f) (Err e) t st n slot may held = ap (λ (x : Shown). x.holds n slot) st.1 ∙ held
+keeps s fine (Withdraw k) (Err e) t st n slot may held = ap (λ (x : Shown). x.holds n slot) st.1 ∙ held
+keeps s fine Replan (Err e) t st n slot may held = ap (λ (x : Shown). x.holds n slot) st.1 ∙ held
+keeps s fine Start (Err e) t st n slot may held = absurd st
+keeps s fine Rest (Err e) t st n slot may held = absurd st
+keeps s fine (Fit d) (Err e) t st n slot may held = absurd st
 
 of_call : (h : History) (s : Shown) (c : Call) (a : Answer) (t : Shown) → Came h s → Step s c a t → OfCall h s c a t
 of_call h s (Enrol n f) a t came st = tt

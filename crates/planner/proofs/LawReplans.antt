@@ -1,18 +1,17 @@
 -- What the rule of a re-plan gives of the law.
-use Rattle.std.proofs.Common.{◌≡◌, ℕ, ◌<◌, Bool, true, false, ◌⊎◌, List, [], ◌∷◌, is_some, Ok, Err, Option, sym, refl, ap, ◌∙◌, subst, inl, inr, ⊎_elim, arith}
+use Rattle.std.proofs.Common.{◌≡◌, ℕ, ◌<◌, Bool, true, List, [], ◌∷◌, is_some, Ok, Err, sym, refl, ap, ◌∙◌, subst, inl, inr, arith}
 use mathlib.Core.Path.{fun_ext}
 use Rattle.planner.specs.declared.calls.Call.TheVariants.{Replan}
-use Rattle.planner.specs.declared.flows.Flow.{Flow}
 use Rattle.planner.specs.declared.plan_faults.PlanFault.{PlanFault}
-use Rattle.planner.specs.Bookings.{route_on, booked_load}
+use Rattle.planner.specs.Bookings.{route_on}
 use Rattle.planner.specs.FlowSets.{bit}
 use Rattle.planner.specs.Histories.{History, Came, bookings_of}
 use Rattle.planner.specs.Laws.{routes_of, booked_flows, load_of_history, Refusal, Replanned}
-use Rattle.planner.specs.Orders.{Order, Remains}
+use Rattle.planner.specs.Orders.{Remains}
 use Rattle.planner.specs.PlanFaults.{numbered}
 use Rattle.planner.specs.Placements.{PlacedInOrder, Unplaceable, Unplanned}
 use Rattle.planner.specs.Shown.{Shown}
-use Rattle.planner.specs.Slots.{total, Load, Placing}
+use Rattle.planner.specs.Slots.{total, Load}
 use Rattle.planner.specs.Steps.{Answer, Step, load_shown, flows_of}
 use Rattle.planner.proofs.Reached.{good_came, told_came}
 use Rattle.planner.proofs.SameLoad.{rebooked}

@@ -1,5 +1,5 @@
 -- Every plan that came by calls is good, and its bookings are those of its history.
-use Rattle.std.proofs.Common.{◌≡◌, ℕ, ◌<◌, Bool, true, false, cond, eqb, List, [], ◌∷◌, Some, None, Ok, Err, Option, sym, refl, ap, ◌∙◌, subst}
+use Rattle.std.proofs.Common.{◌≡◌, ℕ, Bool, true, false, cond, eqb, [], ◌∷◌, Some, None, Ok, Err, Option, sym, ap, ◌∙◌, subst}
 use mathlib.Core.Path.{fun_ext}
 use Rattle.std.proofs.lemmas.Bool.{both_ways, not-true}
 use Rattle.planner.specs.declared.calls.Call.{Call}
@@ -8,8 +8,8 @@ use Rattle.planner.specs.declared.flows.Flow.{Flow}
 use Rattle.planner.specs.Histories.{History, Came, booked_by, bookings_of}
 use Rattle.planner.specs.LinkSets.{share}
 use Rattle.planner.specs.Shown.{Shown}
-use Rattle.planner.specs.Slots.{count, taken, Earliest}
-use Rattle.planner.specs.Steps.{Answer, Step, Books, Passes, booking_checks, admit_checks, enrol_checks, slot_check, valid_slots, in_state}
+use Rattle.planner.specs.Slots.{taken, Earliest}
+use Rattle.planner.specs.Steps.{Answer, Step, Books, Passes, admit_checks, enrol_checks, slot_check, valid_slots, in_state}
 use Rattle.planner.proofs.Checks.{may_book, passes_first}
 use Rattle.planner.proofs.Good.{Good, good_opened, good_booked, good_unbooked, good_replanned, good_fitted}
 use Rattle.planner.proofs.Held.{taken_from}

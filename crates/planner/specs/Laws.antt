@@ -1,6 +1,6 @@
 -- The law of a plan: what holds after every history of calls, and of every call.
 -- "Booked" is told by the history alone, and overlap by the routes of the fabric.
-use Rattle.std.specs.Prelude.{◌≡◌, ℕ, ◌<◌, Bool, true, false, List, [], ◌∷◌, is_some, Some, Ok, Err, Option, ◌==◌, ◌≢◌}
+use Rattle.std.specs.Prelude.{◌≡◌, ℕ, ◌<◌, Bool, true, false, List, [], ◌∷◌, is_some, Some, Ok, Err, ◌==◌, ◌≢◌}
 use Rattle.fabric.specs.Overlaps.{Overlap}
 use Rattle.planner.specs.declared.calls.Call.{Call}
 use Rattle.planner.specs.declared.calls.Call.TheVariants.{Enrol, Admit, Withdraw, Replan, Start, Rest, Fit}
@@ -8,7 +8,7 @@ use Rattle.planner.specs.declared.flows.Flow.{Flow}
 use Rattle.planner.specs.declared.plan_faults.PlanFault.{PlanFault}
 use Rattle.planner.specs.Bookings.{route_on, booked_load, valid_beside}
 use Rattle.planner.specs.FlowSets.{bit}
-use Rattle.planner.specs.Histories.{Event, History, Came, bookings_of}
+use Rattle.planner.specs.Histories.{History, Came, bookings_of}
 use Rattle.planner.specs.Orders.{AllOverlap, Order}
 use Rattle.planner.specs.PlanFaults.{numbered}
 use Rattle.planner.specs.Shown.{Shown}

@@ -1,5 +1,5 @@
 -- What a plan shows.
-use Rattle.std.specs.Prelude.{◌≡◌, ℕ, ◌≤◌, Bool, true, false, None, Option}
+use Rattle.std.specs.Prelude.{◌≡◌, ℕ, ◌≤◌, Bool, false, None, Option}
 use Rattle.fabric.specs.Meaning.{Meaning, KeepsRoutes}
 use Rattle.planner.specs.declared.flows.Flow.{Flow}
 use Rattle.planner.specs.declared.plans.Plan.{Plan}

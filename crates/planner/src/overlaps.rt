@@ -36,7 +36,7 @@ impl Overlaps {
     pub(crate) fn join(&mut self, one: u8, other: u8)
         requires one_bound { one < 64 }
         requires other_bound { other < 64 }
-        requires one_nonzero { one ≢ other }
+        requires two_flows { one ≢ other }
         ensures { (f g : ℕ) → overlapping self.new.groups f g ≡ (is_pair one other f g || overlapping self.old.groups f g) }
     {
         self.groups[one as usize].insert(other);

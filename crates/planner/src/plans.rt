@@ -6,12 +6,11 @@ ghost use Rattle.planner.specs.Tables.{holds};
 use crate::bookings::Booking;
 use crate::periods::Period;
 use crate::slots::SlotTable;
-use fabric::Fabric;
 use std::marker::PhantomData;
 
 /// A plan over a fabric, in a state: which flows are booked, and which slots of the period each holds.
 #[derive(Drop)]
-pub struct Plan<F: Fabric, S> {
+pub struct Plan<F, S> {
     pub(crate) fabric: F,
     pub(crate) period: Period,
     pub(crate) bookings: [Option<Booking>; 64],

@@ -65,8 +65,8 @@ impl SlotTable {
     /// Gives the flow its earliest valid slots, `demand` of them. Where there are too few it answers false, and nothing changes.
     pub(crate) fn give(&mut self, flow: u8, beside: FlowSet, demand: u16, period: u8) -> bool
         requires flow_bound { flow < 64 }
-        requires by_index { (s : ℕ) → holds self.old flow s ≡ false }
-        requires flow_value { members beside flow ≡ false }
+        requires holds_nothing { (s : ℕ) → holds self.old flow s ≡ false }
+        requires not_beside { members beside flow ≡ false }
         ensures given { result ≡ true → Given (holds self.old) (holds self.new) 64 flow (members beside) demand period }
         ensures refused { result ≡ false → (self.new ≡ self.old) × (count (free (holds self.old) 64 (members beside)) period < demand) }
     {
@@ -80,9 +80,9 @@ impl SlotTable {
     /// The giving pass, which stops once the demand is met.
     fn take_earliest(&mut self, flow: u8, beside: FlowSet, demand: u16, period: u8)
         requires flow_bound { flow < 64 }
-        requires by_index { (s : ℕ) → holds self.old flow s ≡ false }
-        requires flow_value { members beside flow ≡ false }
-        requires demand_bound { demand ≤ count (free (holds self.old) 64 (members beside)) period }
+        requires holds_nothing { (s : ℕ) → holds self.old flow s ≡ false }
+        requires not_beside { members beside flow ≡ false }
+        requires enough { demand ≤ count (free (holds self.old) 64 (members beside)) period }
         ensures { Given (holds self.old) (holds self.new) 64 flow (members beside) demand period }
     {
         let mut left = demand;

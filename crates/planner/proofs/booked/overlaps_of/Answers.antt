@@ -11,7 +11,7 @@ use Rattle.planner.proofs.Memory.{routes_in, none_past, unbooked, none_overlaps,
 use Rattle.planner.proofs.Swept.{Swept, swept_none, swept_more, swept_out, swept_all}
 use Rattle.planner.proofs.Tables.{bit_none, repeated}
 use Rattle.planner.proofs.booked.overlaps_of.Goals as goal
-use Rattle.planner.proofs.booked.overlaps_of.Goals.{in-Some, in-default}
+use Rattle.planner.proofs.booked.overlaps_of.Goals.{in-Some, in_default}
 
 pub loop-n-init : goal.loop-n-init
 loop-n-init c =
@@ -32,15 +32,15 @@ loop-n-preserved c =
       | in-Some w ↦
           let x = w.remove.new.self in
           let room : n < length old = omega (arith, c.loop-n.invariant.0) in
-          let mine = group_of bs n w.in-Some.booking (members w.met-by-group.result) (members x) w.in-Some.is w.met-by-group.ensures w.remove.ensures in
+          let mine = group_of bs n w.in-Some.booking (members w.met_by-group.result) (members x) w.in-Some.is w.met_by-group.ensures w.remove.ensures in
           subst Goal (sym w.groups-is) (
             length-set old n x ∙ c.loop-n.invariant.0,
             λ g. swept_more (λ f. overlapping old f g) (λ f. ov f g) n (c.loop-n.invariant.1 g) (λ f. overlapping (set old n x) f g)
                 (λ f. replaced old n x f g room ∙ ap (λ b. cond (eqb f n) b (overlapping old f g)) (mine g)),
           )
-      | in-default w ↦
+      | in_default w ↦
           subst Goal (sym w.groups-is)
-          (c.loop-n.invariant.0, λ g. swept_out (λ f. overlapping old f g) (λ f. ov f g) n (c.loop-n.invariant.1 g) (none_overlaps bs n g (unbooked (booking_at bs n) w.in-default.not-Some)))
+          (c.loop-n.invariant.0, λ g. swept_out (λ f. overlapping old f g) (λ f. ov f g) n (c.loop-n.invariant.1 g) (none_overlaps bs n g (unbooked (booking_at bs n) w.in_default.not-Some)))
     ]
 
 -- all of the groups
@@ -53,10 +53,11 @@ module _ (bs : List (Option Booking)) (groups : List FlowSet) (n : ℕ) (all : (
 pub returns : goal.returns
 returns c = whole c.args.bookings.now c.loop-n.groups c.loop-n.n c.loop-n.invariant.1 (omega arith)
 
-pub invariant-of-result : goal.invariant-of-result
-invariant-of-result c =
+pub invariant_of-result : goal.invariant_of-result
+invariant_of-result c =
     let bs = c.args.bookings.now in
-    let is = whole bs c.loop-n.groups c.loop-n.n c.loop-n.invariant.1 (omega arith) in (
-      λ f g. is f g ∙ overlap_mutual (routes_in bs) f g ∙ sym (is g f),
-      (λ f. is f f ∙ and_left (not (eqb f f)) (share (routes_in bs f) (routes_in bs f)) (not_from_true (eqb f f) (eq-eqb f f refl)), tt),
-    )
+    let is = whole bs c.loop-n.groups c.loop-n.n c.loop-n.invariant.1 (omega arith) in
+    record {
+      symmetric = λ f g. is f g ∙ overlap_mutual (routes_in bs) f g ∙ sym (is g f);
+      apart = λ f. is f f ∙ and_left (not (eqb f f)) (share (routes_in bs f) (routes_in bs f)) (not_from_true (eqb f f) (eq-eqb f f refl));
+    }

@@ -14,8 +14,8 @@ loop-flow-init c =
     let most = count_le p 64 in
     (subst (λ xs. Took (overlapping c.args.overlaps.now.groups) p xs p) (sym c.empty-order.ensures.0) refl, omega arith)
 
-pub put-first-requires : goal.put-first-requires
-put-first-requires c =
+pub put_first-requires : goal.put_first-requires
+put_first-requires c =
     let last = c.in-Some.ensures in
     let some = total_without (λ _. 1) (members c.loop-flow.rest) c.in-Some.flow 64 last.0 last.1.0.0 in
     (last.0, omega arith)
@@ -34,20 +34,20 @@ loop-flow-preserved c =
     let f = c.in-Some.flow in
     let last = c.in-Some.ensures in
     let fewer = one_fewer q r f c.remove.ensures 64 last.0 last.1.0.0 in (
-      took_more q r f c.remove.ensures ov (members c.args.flows) (listed c.loop-flow.order) (listed c.put-first.new.self)
-          c.loop-flow.invariant.0 last.1 c.put-first.ensures.0,
+      took_more q r f c.remove.ensures ov (members c.args.flows) (listed c.loop-flow.order) (listed c.put_first.new.self)
+          c.loop-flow.invariant.0 last.1 c.put_first.ensures.0,
       omega arith,
     )
 
-pub returns-then-is-empty : goal.returns-then-is-empty
-returns-then-is-empty c =
+pub returns-then-is_empty : goal.returns-then-is_empty
+returns-then-is_empty c =
     let fits : c.args.flows.0 < 2 ^ 64 = search rules in
     took_chosen (overlapping c.args.overlaps.now.groups) 64 (members c.args.flows) (listed c.loop-flow.order) (members c.loop-flow.rest)
-    (members_below c.args.flows fits) c.loop-flow.invariant.0 (c.if-is-empty.ensures.none tt)
+    (members_below c.args.flows fits) c.loop-flow.invariant.0 (c.if-is_empty.ensures.none tt)
 
-pub returns-else-is-empty : goal.returns-else-is-empty
-returns-else-is-empty c =
+pub returns-else-is_empty : goal.returns-else-is_empty
+returns-else-is_empty c =
     let fits : c.args.flows.0 < 2 ^ 64 = search rules in
     let q = members c.loop-flow.rest in
     took_remains (overlapping c.args.overlaps.now.groups) 64 (members c.args.flows) (listed c.loop-flow.order) q
-    (members_below c.args.flows fits) c.loop-flow.invariant.0 (some_member 64 q c.is-empty.result c.is-empty.ensures.only c.if-is-empty.false) c.in-default.ensures
+    (members_below c.args.flows fits) c.loop-flow.invariant.0 (some_member 64 q c.is_empty.result c.is_empty.ensures.only c.if-is_empty.false) c.in_default.ensures

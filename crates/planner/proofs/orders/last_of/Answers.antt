@@ -21,7 +21,7 @@ search-preserved c =
       pass (MayComeLast ov p) c.search.flow c.search.invariant.1
           (not_last ov c.args.overlaps.now.apart p (members c.group.result) (members c.intersection-beside.result) f c.group.ensures c.intersection-beside.ensures
           c.loop-other.other (sym c.if-contains.ensures)
-          (λ all. both_ways c.overlaps-rest.result c.if-not-overlaps-rest.true (c.overlaps-rest.ensures.1 all))),
+          (λ all. both_ways c.overlaps_rest.result c.if-not-overlaps_rest.true (c.overlaps_rest.ensures.1 all))),
     )
 
 pub returns-after-loop-other : goal.returns-after-loop-other

@@ -1,4 +1,4 @@
-use Rattle.std.proofs.Common.{true, false, refl, ap}
+use Rattle.std.proofs.Common.{false, refl, ap}
 use Rattle.planner.specs.Outcomes.{is_fit}
 use Rattle.planner.specs.Shown.{shows}
 use Rattle.planner.proofs.LawHolds.{made}

@@ -1,4 +1,4 @@
-use Rattle.std.proofs.Common.{◌≡◌, ℕ, ◌≤◌, replicate, None, refl, ap, arith, rules}
+use Rattle.std.proofs.Common.{◌≡◌, ℕ, replicate, None, refl, ap, rules}
 use Rattle.planner.specs.Bookings.{booking_at, booked_flow, kept_route}
 use Rattle.planner.proofs.Groups.{replicate_holds}
 use Rattle.planner.proofs.opens.Plan+F+Resting.open.Goals as goal

@@ -1,4 +1,4 @@
-use Rattle.std.proofs.Common.{◌≡◌, ◌≤◌, sym, ap, arith}
+use Rattle.std.proofs.Common.{sym, ap, arith}
 use Rattle.planner.specs.Bookings.{booked_flow}
 use Rattle.planner.proofs.Memory.{none_past}
 use Rattle.planner.proofs.plans.Plan.flow.Goals as goal

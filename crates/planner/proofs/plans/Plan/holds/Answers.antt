@@ -1,4 +1,4 @@
-use Rattle.std.proofs.Common.{◌≡◌, ◌<◌, ◌≤◌, true, false, is_some, sym, ⊎_elim, arith}
+use Rattle.std.proofs.Common.{◌≤◌, is_some, sym, ⊎_elim, arith}
 use Rattle.std.proofs.lemmas.Bool.{both_ways, cases_Bool}
 use Rattle.planner.specs.Bookings.{booking_at}
 use Rattle.planner.specs.Tables.{holds}

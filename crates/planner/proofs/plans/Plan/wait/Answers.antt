@@ -1,9 +1,9 @@
-use Rattle.std.proofs.Common.{◌≡◌, ℕ, ◌+◌, true, false, Some, None, Option, sym, ap, ◌∙◌, subst, subst₂, arith, rules}
+use Rattle.std.proofs.Common.{◌≡◌, ◌+◌, true, Some, sym, ap, ◌∙◌, subst, subst₂, arith, rules}
 use Rattle.planner.specs.Questions.{Wait}
 use Rattle.planner.specs.Tables.{holds}
 use Rattle.planner.proofs.Waits.{Waited, waited_none, waited_pass, waited_take}
 use Rattle.planner.proofs.plans.Plan.wait.Goals as goal
-use Rattle.planner.proofs.plans.Plan.wait.Goals.{then_holds, else-holds}
+use Rattle.planner.proofs.plans.Plan.wait.Goals.{then-holds, else-holds}
 
 pub loop-slot-init : goal.loop-slot-init
 loop-slot-init g c = waited_none (holds c.args.self.now.table c.args.number)
@@ -15,12 +15,12 @@ loop-slot-preserved g c =
     let old = c.loop-slot.invariant in
     let here : r m ≡ c.holds.result = ap r (sym c.from.ensures) ∙ sym (c.holds.ensures true) in
     elim c.if-holds.branch [
-      | then_holds w ↦
-          let is : c.if-holds.last ≡ Some m = search (rules, w.last_is) in
+      | then-holds w ↦
+          let is : c.if-holds.last ≡ Some m = search (rules, w.last-is) in
           subst₂ (λ d last. Waited r (m + 1) d last) (sym w.wait-is) (sym is)
           (waited_take r m c.loop-slot.wait w.longer-wait.result c.loop-slot.last old (here ∙ w.if-holds.true) w.longer-wait.ensures)
       | else-holds w ↦
-          subst₂ (λ d last. Waited r (m + 1) d last) (sym w.wait-is) (sym w.last_is)
+          subst₂ (λ d last. Waited r (m + 1) d last) (sym w.wait-is) (sym w.last-is)
           (waited_pass r m c.loop-slot.wait c.loop-slot.last old (here ∙ w.if-holds.false))
     ]
 

@@ -1,4 +1,3 @@
-use Rattle.std.proofs.Common.{Bool}
 use Rattle.planner.specs.Tables.{holds}
 use Rattle.planner.proofs.Waits.{Waited}
 use Rattle.planner.proofs.plans.Plan.wait.Given as goal

@@ -3,11 +3,11 @@
 
 ghost use Rattle.std.specs.Prelude.{◌≤◌, length, IfOk};
 
-use anyhow::anyhow;
 use session::printers::{Printer, RunFault, Unprinted};
 use session::running::run_script;
 use std::io;
 use std::io::Read;
+use std::process::ExitCode;
 
 // One byte more than a script may have: a longer one is refused as a whole, whatever follows.
 const ENOUGH: usize = 16_385;
@@ -45,25 +45,25 @@ fn read_script(rt: &HostRuntime, room: &mut [u8]) -> io::Result<usize>
     Ok(count)
 }
 
-fn main(rt: HostRuntime) -> anyhow::Result<()> {
+fn main(rt: HostRuntime) -> anyhow::Result<ExitCode> {
     let mut room = [0; ENOUGH];
     let count = match read_script(&rt, &mut room) {
         Ok(count) => count,
         Err(error) => {
             eprintln!(rt; "slotplan: the script cannot be read: {error}")?;
-            return Err(anyhow!("no script"));
+            return Ok(ExitCode::FAILURE);
         }
     };
     let mut screen = Screen { rt: &rt };
     match run_script(&room[..count], rt.alloc(), &mut screen) {
-        Ok(()) => Ok(()),
+        Ok(()) => Ok(ExitCode::SUCCESS),
         Err(RunFault::NoMemory) => {
             rt.eprintln("slotplan: there is no memory for a line")?;
-            Err(anyhow!("no memory"))
+            Ok(ExitCode::FAILURE)
         }
         Err(RunFault::Unprinted) => {
             rt.eprintln("slotplan: a line cannot be printed")?;
-            Err(anyhow!("unprinted"))
+            Ok(ExitCode::FAILURE)
         }
     }
 }

@@ -8,7 +8,7 @@ use Rattle.session.proofs.rows.group_row.Goals as goal
 pub loop-flow-preserved : goal.loop-flow-preserved
 loop-flow-preserved c =
     let inside : c.loop-flow.flow < length c.loop-flow.row = omega (arith, c.loop-flow.invariant.0) in
-    simp (c.from.ensures, c.contains-flow.ensures)
+    simp (c.from.ensures, c.contains_flow.ensures)
     (length-set c.loop-flow.row c.loop-flow.flow _ ∙ c.loop-flow.invariant.0, fill_by_more (members c.args.group) c.loop-flow.row c.loop-flow.flow false inside c.loop-flow.invariant.1)
 
 pub returns : goal.returns

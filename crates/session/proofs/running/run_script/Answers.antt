@@ -7,13 +7,13 @@ pub returns-then-script-gt-LIMIT : goal.returns-then-script-gt-LIMIT
 returns-then-script-gt-LIMIT g c =
     too_long g.P.Printer.took c.args.script.now c.answer.result c.args.out.now c.answer.new.out c.if-script-gt-LIMIT.true c.answer.ensures
 
-pub returns-in-default : goal.returns-in-default
-returns-in-default g c =
-    ([], inr (c.if-script-gt-LIMIT.false, ([], c.in-default.ensures, refl)), refl)
+pub returns-in_default : goal.returns-in_default
+returns-in_default g c =
+    ([], inr (c.if-script-gt-LIMIT.false, ([], c.in_default.ensures, refl)), refl)
 
 pub returns-in-Ok : goal.returns-in-Ok
 returns-in-Ok g c =
-    fabric_accepted g.P.Printer.took c.args.script.now c.run-built.result c.in-Some.line.next c.in-Some.line.bytes.now (built_meaning c.in-Ok.built) c.args.out.now c.run-built.new.out c.if-script-gt-LIMIT.false c.in-Some.ensures c.in-Ok.ensures c.run-built.ensures
+    fabric_accepted g.P.Printer.took c.args.script.now c.run_built.result c.in-Some.line.next c.in-Some.line.bytes.now (built_meaning c.in-Ok.built) c.args.out.now c.run_built.new.out c.if-script-gt-LIMIT.false c.in-Some.ensures c.in-Ok.ensures c.run_built.ensures
 
 pub returns-in-Err : goal.returns-in-Err
 returns-in-Err g c =

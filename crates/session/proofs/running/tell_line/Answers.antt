@@ -3,6 +3,6 @@ use Rattle.session.specs.Answers.{answer_line}
 use Rattle.session.specs.declared.faults.ScriptFault.TheVariants.{NoForm}
 use Rattle.session.proofs.running.tell_line.Goals as goal
 
-pub returns-in-ok-answer : goal.returns-in-ok-answer
-returns-in-ok-answer g c =
-    (answer_line (Err NoForm) c.args.number ∷ [], inl (c.in-None.ensures, refl, refl), c.in-ok-answer.ensures, c.requires.named)
+pub returns-in_ok-answer-in-None : goal.returns-in_ok-answer-in-None
+returns-in_ok-answer-in-None g c =
+    (answer_line (Err NoForm) c.args.number ∷ [], inl (c.in-None.ensures, refl, refl), c.in_ok-answer-in-None.ensures, c.requires.named)

@@ -16,6 +16,6 @@ returns g c =
     let inside : c.from.result < length labels = omega (arith, c.from.ensures, c.requires.below, c.requires.whole) in
     let entry : get_or labels n None ≡ Some name =
     ap (λ i. get_or labels i None) (sym c.from.ensures) ∙ sym (get_or_read labels c.from.result c.index-labels-from.result inside c.index-labels-from.is None) ∙ c.in-Some-entry.is in
-    let row = ap (λ m. take m c.slot-row-row.result) (c.from-2.ensures ∙ c.period.ensures) ∙ c.slot-row-row.ensures.row in
+    let row = ap (λ m. take m c.slot_row-row.result) (c.from-2.ensures ∙ c.period.ensures) ∙ c.slot_row-row.ensures.row in
     shown_flow (state s labels) n c.in-Some.flow name c.wait.result _ c.in-Some.ensures entry c.wait.ensures
-    (c.in-ok-text.ensures ∙ ap (λ v. flow_line v n c.in-Some.flow.demand c.wait.result (take c.from-2.result c.slot-row-row.result)) c.name_text.ensures ∙ ap (λ r. flow_line (spelled name) n c.in-Some.flow.demand c.wait.result r) row)
+    (c.in_ok-text.ensures ∙ ap (λ v. flow_line v n c.in-Some.flow.demand c.wait.result (take c.from-2.result c.slot_row-row.result)) c.name_text.ensures ∙ ap (λ r. flow_line (spelled name) n c.in-Some.flow.demand c.wait.result r) row)

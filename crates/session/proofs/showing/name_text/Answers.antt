@@ -5,6 +5,6 @@ use Rattle.session.proofs.showing.name_text.Goals as goal
 
 pub unreachable-requires : goal.unreachable-requires
 unreachable-requires c =
-    let bytes = c.as-bytes.result.now in
+    let bytes = c.as_bytes.result.now in
     c.in-Err.ensures.cases.0
-    (IsUtf8-from_ascii bytes (IsAscii-from_reads bytes (length bytes) (omega arith) (λ k h. omega (arith, c.as-bytes.ensures.lawful.2 k h))))
+    (IsUtf8-from_ascii bytes (IsAscii-from_reads bytes (length bytes) (omega arith) (λ k h. omega (arith, c.as_bytes.ensures.lawful.2 k h))))

@@ -14,7 +14,7 @@
 # It fails if the edit does not fit, if the crate still compiles, or if it is refused for another reason.
 # The crate without the edit must pass in the same copy, so that a broken copy cannot look like a refusal.
 #
-#     scripts/rejected.sh [FOLDER]      the cases of FOLDER (tests/rejected), after `rt check` or `rt ci`
+#     scripts/rejected.sh [FOLDER]      the cases of FOLDER (tests/rejected), after `rt ci`
 #
 # The last line is 'rejected: N passed, M failed'; the exit status is 0 only if M is 0 and N is not.
 set -u
@@ -23,7 +23,6 @@ folder=${1:-$root/tests/rejected}
 copy=$(mktemp -d)
 trap 'rm -rf "$copy"' EXIT
 cp -r "$root/crates" "$root/crates.txt" "$copy/" || exit 2
-[ -d "$root/target" ] && cp -r "$root/target" "$copy/"
 passed=0
 failed=0
 
@@ -71,10 +70,10 @@ try() {
     want=$(field error "$1")
     source=$root/crates/$crate/$file
     [ -n "$crate" ] && [ -n "$want" ] && [ -f "$source" ] || { echo "BAD CASE: a field is missing, or the file"; return; }
-    (cd "$copy" && rt check "$crate" > "$copy/out" 2>&1) || { echo "BAD COPY: $crate is not proved without the edit"; return; }
+    (cd "$copy/crates/$crate" && rt check > "$copy/out" 2>&1) || { echo "BAD COPY: $crate is not proved without the edit"; return; }
     edit "$1" "$source" "$copy/edited" || { echo "BAD CASE: the old text does not stand exactly once"; return; }
     cp "$copy/edited" "$copy/crates/$crate/$file"
-    out=$(cd "$copy" && rt check "$crate" 2>&1)
+    out=$(cd "$copy/crates/$crate" && rt check 2>&1)
     status=$?
     cp "$source" "$copy/crates/$crate/$file"
     got=$(printf '%s\n' "$out" | grep -o 'error\[[a-z0-9-]*\]' | sort -u | tr -d '\n')

@@ -17,7 +17,7 @@
 #
 # A program is run in a folder of its own, which has what FOLDER/data has.
 #
-#     scripts/runs.sh [FOLDER]      the cases of FOLDER (tests/runs), after `rt check` or `rt ci`
+#     scripts/runs.sh [FOLDER]      the cases of FOLDER (tests/runs), after `rt ci`
 #
 # The last line is 'runs: N passed, M failed'; the exit status is 0 only if M is 0 and N is not.
 set -u
@@ -44,11 +44,12 @@ input() {
 for case in "$folder"/*.run; do
     [ -f "$case" ] || continue
     name=$(basename "$case" .run)
+    program=$(field program "$case")
     read -r -a words <<< "$(field args "$case")"
     input "$case" > "$work/in"
     pad=$(field pad "$case")
     [ -z "$pad" ] || head -c $((pad - $(wc -c < "$work/in"))) /dev/zero | tr '\0' a >> "$work/in"
-    (cd "$work/data" 2> /dev/null || cd "$work"; "$root/target/bin/$(field program "$case")" ${words[@]+"${words[@]}"}) > "$work/out" 2> "$work/err" < "$work/in"
+    (cd "$work/data" 2> /dev/null || cd "$work"; "$root/crates/$program/out/$program" ${words[@]+"${words[@]}"}) > "$work/out" 2> "$work/err" < "$work/in"
     status=$?
     part stdout "$case" > "$work/want-out"
     part stderr "$case" > "$work/want-err"

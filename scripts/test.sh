@@ -5,7 +5,8 @@
 set -u
 cd "$(dirname "$0")/.." || exit 2
 log=$(mktemp)
-trap 'rm -f "$log"' EXIT
+ci_log=$(mktemp)
+trap 'rm -f "$log" "$ci_log"' EXIT
 passed=0
 failed=0
 
@@ -25,13 +26,24 @@ run() {
     [ "$2" -eq 0 ] || echo "test: $label FAILED"
 }
 
-# layout: one test, that every source is laid out as `rt fmt` lays it out
-layout() {
-    if rt fmt --check; then echo "layout: 1 passed, 0 failed"; else echo "layout: 0 passed, 1 failed"; return 1; fi
+# ci: the merge gate, with its output kept for `bad`
+ci() {
+    rt ci 2>&1 | tee "$ci_log"
+    return "${PIPESTATUS[0]}"
 }
 
-run 'rt fmt --check' layout
-run 'rt ci' rt ci
+# bad: one test, that no must-fail edit was bad: one that cannot be tried passes `rt ci`, though it shows nothing
+bad() {
+    if grep -q '^rt: ok' "$ci_log" && ! grep -q '^rt: ok.*, [1-9][0-9]* bad' "$ci_log"; then
+        echo 'edits: 1 passed, 0 failed'
+    else
+        echo 'edits: 0 passed, 1 failed'
+        return 1
+    fi
+}
+
+run 'rt ci' ci
+run 'must-fail edits that can be tried' bad
 run 'runs of the programs' scripts/runs.sh
 run 'programs that the compiler must turn away' scripts/rejected.sh
 run 'the check of those programs' scripts/rejected_selftest.sh

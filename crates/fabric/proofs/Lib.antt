@@ -1,4 +1,3 @@
-pub mod TreeFills
 pub mod RouteRefused
 pub mod RouteSteps
 pub mod RouteAnswers

@@ -115,10 +115,6 @@ joins_middle : (rs more : List Route) (r : Route) (p : Pair) → some_joins (rs 
 joins_middle [] more r p e = (or_parts (joins r p) (some_joins more p) e).0
 joins_middle (x ∷ rs) more r p e = joins_middle rs more r p (or_parts (joins x p) (some_joins (rs ++ r ∷ more) p) e).1
 
-pub joins_here : (rs more : List Route) (r : Route) (p : Pair) → joins r p ≡ true → some_joins (rs ++ r ∷ more) p ≡ true
-joins_here [] more r p e = or_left (joins r p) (some_joins more p) e
-joins_here (x ∷ rs) more r p e = or_right (joins x p) (some_joins (rs ++ r ∷ more) p) (joins_here rs more r p e)
-
 distinct_middle : (rs more : List Route) (r : Route) → Distinct (rs ++ r ∷ more) → some_joins rs (ends r) ≡ false
 distinct_middle [] more r d = refl
 distinct_middle (x ∷ rs) more r d =

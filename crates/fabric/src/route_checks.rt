@@ -32,11 +32,11 @@ fn check_header(bytes: &[u8]) -> Result<ListSummary, FabricFault>
         return Err(FabricFault::BadList { place: 2 });
     }
     let terminals = u16::from(bytes[3]);
-    if terminals < 2 || terminals > 128 {
+    if !(2..=128).contains(&terminals) {
         return Err(FabricFault::BadList { place: 3 });
     }
     let links = u16::from_be_bytes([bytes[4], bytes[5]]);
-    if links < 1 || links > 256 {
+    if !(1..=256).contains(&links) {
         return Err(FabricFault::BadList { place: 4 });
     }
     Ok(ListSummary {

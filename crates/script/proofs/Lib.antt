@@ -1,13 +1,7 @@
-pub mod NumberWords
-pub mod CutParts
-pub mod WordLists
-pub mod MarkLists
-pub mod VerbWords
-pub mod FormWords
+pub mod PartLists
 pub mod CommandWords
-pub mod TreeWords
 pub mod DescriptionWords
-pub mod OpeningWords
+pub mod TreeWords
 pub mod LineLists
 pub mod RunLists
 pub mod MemberLists

@@ -1,5 +1,4 @@
 pub mod Words
-pub mod Marks
 pub mod Verbs
 pub mod Commands
 pub mod Descriptions

@@ -1,4 +1,5 @@
 pub mod PartLists
+pub mod ItemLists
 pub mod CommandWords
 pub mod DescriptionWords
 pub mod TreeWords

@@ -3,18 +3,21 @@ use Rattle.std.proofs.Common.{◌≡◌, List, [], ◌∷◌, ◌++◌, Some, No
 use Rattle.std.specs.Iterator.{AlwaysYields}
 use Rattle.std.proofs.lemmas.Iterator.{YieldsList}
 
-module _ {S A : Type 0} (steps : S → Option A → S → Type 0) where
-  pub next_of : (s t : S) (item : A) (all : List A) → AlwaysYields steps (λ x. x) s all → steps s (Some item) t → (more : List A) × (all ≡ item ∷ more) × AlwaysYields steps (λ x. x) t more
+module _ {S A B : Type 0} (steps : S → Option A → S → Type 0) (v : A → B) where
+  pub next_of : (s t : S) (item : A) (all : List B) → AlwaysYields steps v s all → steps s (Some item) t → (more : List B) × (all ≡ v item ∷ more) × AlwaysYields steps v t more
   next_of s t item [] yields step = absurd (yields item t step)
   next_of s t item (x ∷ more) yields step = let turn = yields.1 item t step in (more, (λ i. sym turn.0 i ∷ more), turn.1)
 
-  pub none_of : (s t : S) (all : List A) → AlwaysYields steps (λ x. x) s all → steps s None t → all ≡ []
+  pub none_of : (s t : S) (all : List B) → AlwaysYields steps v s all → steps s None t → all ≡ []
   none_of s t [] yields step = refl
   none_of s t (x ∷ more) yields step = absurd (yields.0 t step)
 
 -- what holds where an iterator always gives a list holds where it is shown to, by the iterator that the first fact names
 pub by_chain : {S A : Type 0} {steps : S → Option A → S → Type 0} {s : S} {P : List A → Type 0} → ((all : List A) → AlwaysYields steps (λ x. x) s all → P all) → (all : List A) → YieldsList steps (λ x. x) s all → P all
 by_chain holds all chain = holds all chain.runs
+
+pub yields_of : {S A B : Type 0} {steps : S → Option A → S → Type 0} {v : A → B} {s : S} {all : List B} → YieldsList steps v s all → AlwaysYields steps v s all
+yields_of chain = chain.runs
 
 pub split_more : {A : Type 0} (told more next rest : List A) (item : A) → rest ≡ told ++ more → more ≡ item ∷ next → rest ≡ (told ++ item ∷ []) ++ next
 split_more told more next rest item split first = split ∙ ap (λ l. told ++ l) first ∙ sym (append_assoc told (item ∷ []) next)

@@ -1,8 +1,13 @@
 pub mod PartLists
 pub mod ItemLists
+pub mod MarkLists
+pub mod VerbWords
+pub mod KindWords
+pub mod FormWords
 pub mod CommandWords
-pub mod DescriptionWords
 pub mod TreeWords
+pub mod DescriptionWords
+pub mod OpeningWords
 pub mod LineLists
 pub mod RunLists
 pub mod MemberLists

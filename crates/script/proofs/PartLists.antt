@@ -1,9 +1,10 @@
 -- The parts of a line between its spaces.
-use Rattle.std.proofs.Common.{◌≡◌, ℕ, ◌≤◌, ◌==◌, Bool, true, false, not, is_some, List, [], ◌∷◌, ◌++◌, length, get_or, All, Some, None, Option, MatchOption, MatchBool, Bor, sym, refl, ap, ◌∙◌, ⊎_elim, ne_eqb, eq-eqb, arith, append-nil}
-use Rattle.std.specs.List.{AllByRecursion, onto_first}
+use Rattle.std.proofs.Common.{◌≡◌, ℕ, suc, ◌+◌, ◌≤◌, ◌==◌, false, List, [], ◌∷◌, ◌++◌, length, get_or, take, drop, codes, All, Some, None, Option, MatchOption, sym, refl, ap, ◌∙◌, ⊎_elim, ne_eqb, eq-eqb, arith, append-nil, length-append, length-drop}
+use Rattle.std.specs.List.{AllByRecursion, flat_map, onto_first}
+use Rattle.std.proofs.lemmas.List.{drop-drop, take_all, take-append-le}
 use Rattle.std.proofs.lemmas.Bool.{cases_eq}
 use Rattle.std.proofs.lemmas.List.Splits.{length-slice_split, slice_split_none, slice_split_at, slice_split-cons_yes, slice_split-cons_no}
-use Rattle.script.specs.Words.{spaced, parts, parts_left}
+use Rattle.script.specs.Words.{spaced, parts}
 
 -- no space is among the bytes
 abbrev pub Free : List ℕ → Type 0
@@ -15,17 +16,6 @@ tested word free k d inside = ne_eqb (get_or word k d) 32 (free k d inside)
 -- a line has a part
 pub some_part : (line : List ℕ) → parts line ≡ [] → ⊥
 some_part line none = omega (arith, length-slice_split (λ byte. byte == 32) line, ap length none)
-
--- what comes first, and what is left then
-pub first_part : (line word : List ℕ) (after : Option (Bor (List ℕ))) → Free word → MatchOption after (line ≡ word) (λ rest. line ≡ word ++ 32 ∷ rest.now) → parts line ≡ word ∷ parts_left after
-first_part line word None free same = ap parts same ∙ slice_split_none _ word (tested word free)
-first_part line word (Some rest) free same = ap parts same ∙ slice_split_at _ word 32 rest.now (tested word free) refl
-
-pub none_left : (rest : Option (Bor (List ℕ))) (none : Bool) → is_some rest ≡ not none → MatchBool none (parts_left rest ≡ []) (parts_left rest ≡ [] → ⊥)
-none_left None true e = refl
-none_left None false e = let z : ◌≡◌ {A = ℕ} 0 1 = cc in absurd (omega arith)
-none_left (Some rest) true e = let z : ◌≡◌ {A = ℕ} 0 1 = cc in absurd (omega arith)
-none_left (Some rest) false e = some_part rest.now
 
 -- the parts, with spaces between them, are the line
 onto : (byte : ℕ) (all : List (List ℕ)) → 1 ≤ length all → spaced (onto_first byte all) ≡ byte ∷ spaced all
@@ -59,6 +49,42 @@ pub parts_spaced : (word : List ℕ) (words : List (List ℕ)) → Free word →
 parts_spaced word [] free all = ap parts (append-nil word) ∙ slice_split_none _ word (tested word free)
 parts_spaced word (next ∷ words) free all =
     slice_split_at _ word 32 (spaced (next ∷ words)) (tested word free) refl ∙ ap (λ l. word ∷ l) (parts_spaced next words all.0 all.1)
+
+-- parts that stand in the line from a place on, with spaces between them
+abbrev pub Ahead : List ℕ → ℕ → List (List ℕ) → Type 0
+Ahead line from [] = Unit {0}
+Ahead line from (part ∷ others) = (from ≤ length line) × (drop from line ≡ spaced (part ∷ others))
+
+pub all_ahead : (line : List ℕ) (all : List (List ℕ)) → parts line ≡ all → Ahead line 0 all
+all_ahead line [] same = tt
+all_ahead line (part ∷ others) same = (omega arith, sym (spaced_parts line) ∙ ap spaced same)
+
+drop_past : (xs : List ℕ) (y : ℕ) (ys : List ℕ) → drop (length xs + 1) (xs ++ y ∷ ys) ≡ ys
+drop_past [] y ys = refl
+drop_past (x ∷ xs) y ys =
+    let longer : length (x ∷ xs) + 1 ≡ suc (length xs + 1) = omega arith in
+    ap (λ n. drop n (x ∷ (xs ++ y ∷ ys))) longer ∙ drop_past xs y ys
+
+module _ (line : List ℕ) (from : ℕ) (part : List ℕ) (others : List (List ℕ)) (ahead : Ahead line from (part ∷ others)) where
+  pub fits : from + length part ≤ length line
+  fits = omega (arith, ahead.0, length-drop from line, ap length ahead.1, length-append part (flat_map (λ next. codes " " ++ next) others))
+
+  pub first_here : take (length part) (drop from line) ≡ part
+  first_here = ap (take (length part)) ahead.1 ∙ take-append-le (length part) part _ (omega arith) ∙ take_all (length part) part (omega arith)
+
+  pub others_ahead : Ahead line (from + length part + 1) others
+  others_ahead = at others ahead.1
+    where
+      at : (others : List (List ℕ)) → drop from line ≡ spaced (part ∷ others) → Ahead line (from + length part + 1) others
+      at [] same = tt
+      at (next ∷ more) same = (
+        omega (arith, ahead.0, length-drop from line, ap length same, length-append part (flat_map (λ next. codes " " ++ next) (next ∷ more))),
+        sym (drop-drop (length part + 1) from line ∙ ap (λ n. drop n line) (omega arith)) ∙ ap (drop (length part + 1)) same ∙ drop_past part 32 (spaced (next ∷ more)),
+      )
+
+pub part_of : (P : List ℕ → Type 0) (told more : List (List ℕ)) (part : List ℕ) → AllByRecursion P (told ++ part ∷ more) → P part
+part_of P [] more part all = all.0
+part_of P (first ∷ told) more part all = part_of P told more part all.1
 
 -- what is known of an option, in weaker facts
 pub cases_weaker : {X : Type 0} (o : Option X) {P P' : Type 0} {Q Q' : X → Type 0} → MatchOption o P Q → (P → P') → ((x : X) → Q x → Q' x) → MatchOption o P' Q'

@@ -1,11 +1,12 @@
 //! The commands of a script.
-ghost use Rattle.std.specs.Prelude.{◌≡◌, ◌∷◌, MatchOption, ◌≢◌};
-ghost use Rattle.script.specs.Commands.{IsCommand, ShortCommand, ShortWanted, command_words, wanted_words};
-ghost use Rattle.script.specs.Verbs.{verb_word};
-ghost use Rattle.script.specs.Words.{left};
+ghost use Rattle.std.specs.Prelude.{◌≡◌, ℕ, List, [], MatchOption};
+ghost use Rattle.script.specs.Commands.{command_words, ShortCommand, IsCommand};
+ghost use Rattle.script.specs.Marks.{Stand};
+ghost use Rattle.script.specs.Verbs.{Follows};
 
+use crate::arguments::{read_wanted, sole, verb_first};
+use crate::marks::{Mark, mark_line};
 use crate::verbs::Verb;
-use crate::words::Words;
 use labels::names::Name;
 
 /// A flow, as a command wants it: its name and number, its ends, and how many slots it needs.
@@ -31,35 +32,29 @@ pub enum Command {
     Show,
 }
 
-// The flow that the words want.
-fn read_wanted(mut words: Words<'_>) -> Option<Wanted>
+// The command, where no word stands after its verb.
+fn alone(command: Command, arguments: &[Mark]) -> Option<Command>
     ensures { MatchOption result
-        ((flow : Wanted) → ShortWanted flow → left words.entry ≢ wanted_words flow)
-        (λ flow. ShortWanted flow × (left words.entry ≡ wanted_words flow)) }
+        ((line : List ℕ) → Stand line arguments.now [] → ⊥)
+        (λ found. (found ≡ command) × ((line : List ℕ) → Stand line arguments.now [])) }
 {
-    Some(Wanted {
-        name: words.read()?,
-        number: words.read()?,
-        source: words.read()?,
-        destination: words.read()?,
-        demand: words.read_last()?,
-    })
+    arguments.is_empty().then_some(command)
 }
 
-// The command of a verb with the words after it.
-fn read_arguments(verb: Verb, words: Words<'_>) -> Option<Command>
+// The command of a verb with its arguments.
+fn read_arguments(line: &[u8], verb: Verb, arguments: &[Mark]) -> Option<Command>
     ensures { MatchOption result
-        ((command : Command) → ShortCommand command → verb_word verb ∷ left words.entry ≢ command_words command)
-        (λ command. ShortCommand command × (verb_word verb ∷ left words.entry ≡ command_words command)) }
+        ((command : Command) → ShortCommand command → Follows line.now verb arguments.now (command_words command) → ⊥)
+        (λ command. ShortCommand command × Follows line.now verb arguments.now (command_words command)) }
 {
     match verb {
-        Verb::Enrol => read_wanted(words).map(Command::Enrol),
-        Verb::Admit => read_wanted(words).map(Command::Admit),
-        Verb::Withdraw => words.read_last().map(Command::Withdraw),
-        Verb::Replan => words.none_left().then_some(Command::Replan),
-        Verb::Start => words.none_left().then_some(Command::Start),
-        Verb::Rest => words.none_left().then_some(Command::Rest),
-        Verb::Show => words.none_left().then_some(Command::Show),
+        Verb::Enrol => read_wanted(line, arguments).map(Command::Enrol),
+        Verb::Admit => read_wanted(line, arguments).map(Command::Admit),
+        Verb::Withdraw => sole(line, arguments).map(Command::Withdraw),
+        Verb::Replan => alone(Command::Replan, arguments),
+        Verb::Start => alone(Command::Start, arguments),
+        Verb::Rest => alone(Command::Rest, arguments),
+        Verb::Show => alone(Command::Show, arguments),
         Verb::Line | Verb::Tree | Verb::Open => None,
     }
 }
@@ -70,6 +65,7 @@ pub fn read_command(line: &[u8]) -> Option<Command>
         ((command : Command) → IsCommand line.now command → ⊥)
         (IsCommand line.now) }
 {
-    let mut words = Words::new(line);
-    read_arguments(words.read()?, words)
+    let marks = mark_line(line)?;
+    let (verb, arguments) = verb_first(line, marks.as_slice())?;
+    read_arguments(line, verb, arguments)
 }

@@ -9,6 +9,7 @@ pub mod groups;
 pub mod laws;
 pub mod lines;
 mod lists;
+mod marks;
 pub mod openings;
 pub mod ranges;
 mod verbs;

@@ -2,8 +2,9 @@
 ghost use Rattle.std.specs.Prelude.{ℕ, MatchOption};
 ghost use Rattle.script.specs.Openings.{IsOpening};
 
+use crate::arguments::{sole, verb_first};
+use crate::marks::mark_line;
 use crate::verbs::Verb;
-use crate::words::Words;
 
 /// The period that the line opens the plan with; none where it opens none.
 pub fn read_opening(line: &[u8]) -> Option<u16>
@@ -11,9 +12,9 @@ pub fn read_opening(line: &[u8]) -> Option<u16>
         ((period : ℕ) → IsOpening line.now period → ⊥)
         (IsOpening line.now) }
 {
-    let mut words = Words::new(line);
-    match words.read()? {
-        Verb::Open => words.read_last(),
+    let marks = mark_line(line)?;
+    match verb_first(line, marks.as_slice())? {
+        (Verb::Open, arguments) => sole(line, arguments),
         _ => None,
     }
 }

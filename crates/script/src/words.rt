@@ -1,65 +1,43 @@
-//! The words of a line: the parts between its spaces.
-ghost use Rattle.std.specs.Prelude.{◌≡◌, ℕ, List, [], ◌∷◌, MatchBool, MatchOption, ◌≢◌, ⊤};
-ghost use Rattle.std.specs.Iterator.{YieldsFirstRef, item_count};
-ghost use Rattle.script.specs.Words.{left, parts};
+//! The words of a script: names and numbers.
+ghost use Rattle.std.specs.Prelude.{◌≡◌, MatchOption};
+ghost use Rattle.script.specs.Words.{IsWord, OfKind, word_bytes, word_kind};
 
-use crate::arguments::Argument;
-use crate::cuts::cut;
+use decimals::read_number;
+use labels::names::Name;
 
-/// The words of a line that are still to come.
-#[derive(Drop)]
-pub(crate) struct Words<'a> {
-    // nothing is left after the last word; after a space there is always a word, perhaps of no bytes
-    rest: Option<&'a [u8]>,
+/// What a word is.
+#[derive(Clone, Copy, PartialEq, Eq, Debug, Default)]
+pub(crate) enum Kind {
+    #[default]
+    Name,
+    Number,
 }
 
-impl<'a> Words<'a> {
-    /// Those of the whole line.
-    pub(crate) fn new(line: &'a [u8]) -> Words<'a>
-        ensures { left result ≡ parts line.now }
-    {
-        Words { rest: Some(line) }
-    }
+/// A word: a name, which is a part of the script, or a number.
+#[derive(Clone, Copy)]
+pub(crate) enum Word<'a> {
+    Name(&'a [u8]),
+    Number(u16),
+}
 
-    /// The value that the next word spells.
-    pub(crate) fn read<A: Argument>(&mut self) -> Option<A>
-        ensures { MatchOption result
-            ((value : A) → A.allowed value → (more : List (List ℕ)) → left self.old ≢ A.spelling value ∷ more)
-            (λ value. A.allowed value × (left self.old ≡ A.spelling value ∷ left self.new)) }
+impl<'a> Word<'a> {
+    /// The word of the kind that the bytes spell; none where they spell none of that kind.
+    pub(crate) fn new(bytes: &'a [u8], kind: Kind) -> Option<Word<'a>>
+        ensures { MatchOption result (OfKind kind bytes.now → ⊥) (λ word. OfKind kind bytes.now × (word_kind word ≡ kind) × (word_bytes word ≡ bytes.now)) }
     {
-        A::read(self.next()?)
-    }
-
-    /// The value that the next word spells, where it is the last.
-    pub(crate) fn read_last<A: Argument>(mut self) -> Option<A>
-        ensures { MatchOption result
-            ((value : A) → A.allowed value → left self.entry ≢ A.spelling value ∷ [])
-            (λ value. A.allowed value × (left self.entry ≡ A.spelling value ∷ [])) }
-    {
-        let value = self.read()?;
-        self.none_left().then_some(value)
-    }
-
-    /// Whether no word is left.
-    pub(crate) fn none_left(&self) -> bool
-        ensures { MatchBool result (left self.now ≡ []) (left self.now ≢ []) }
-    {
-        self.rest.is_none()
+        match kind {
+            Kind::Name => Name::new(bytes).map(|_| Word::Name(bytes)),
+            Kind::Number => Some(Word::Number(read_number(bytes)?)),
+        }
     }
 }
 
-impl<'a> Iterator for Words<'a> {
-    type Item = &'a [u8];
-
-    ghost can_next = { λ words. ⊤ };
-
-    ghost next_gives = { YieldsFirstRef left };
-
-    ghost remaining = { item_count left };
-
-    fn next(&mut self) -> Option<&'a [u8]> {
-        let (word, rest) = cut(self.rest?, b' ');
-        self.rest = rest;
-        Some(word)
+/// The kind of the word that the bytes spell; none where they spell no word.
+pub(crate) fn kind_of(bytes: &[u8]) -> Option<Kind>
+    ensures { MatchOption result (IsWord bytes.now → ⊥) (λ kind. OfKind kind bytes.now) }
+{
+    if Name::new(bytes).is_some() {
+        return Some(Kind::Name);
     }
+    read_number(bytes).map(|_| Kind::Number)
 }

@@ -1,15 +1,29 @@
-use Rattle.std.proofs.Common.{sym, ◌∙◌}
+use Rattle.std.proofs.Common.{length, ap, ◌∙◌, arith}
+use Rattle.script.specs.Commands.{command_words}
+use Rattle.script.proofs.CommandWords.{command_parts, formed, parts_words, spelled_parts}
+use Rattle.script.proofs.FormWords.{told_by, follows, no_verb}
 use Rattle.script.proofs.PartLists.{cases_weaker}
-use Rattle.script.proofs.CommandWords.{command_parts, verb_of, spelled_parts}
 use Rattle.script.proofs.commands.read_command.Goals as goal
 
-pub returns-in_err-read : goal.returns-in_err-read
-returns-in_err-read c =
-    rw c.from_residual.ensures (λ command is. let verb = verb_of command in c.in_err-read.ensures verb.0 tt verb.1 (c.new-words.ensures ∙ command_parts _ command is ∙ verb.2))
+pub returns-in_err-marks : goal.returns-in_err-marks
+returns-in_err-marks c =
+    rw c.from_residual.ensures (λ command is. c.in_err-marks.ensures (parts_words _ command is))
+
+pub returns-in_err-verb : goal.returns-in_err-verb
+returns-in_err-verb c =
+    rw c.from_residual-in_err-verb.ensures
+    (λ command is.
+    let form = formed command in
+    no_verb _ _ c.in_ok-marks.ensures _ c.as_slice.ensures c.in_err-verb.ensures form.verb form.others (command_parts _ command is ∙ form.first))
 
 pub returns : goal.returns
 returns c =
-    let whole = sym c.new-words.ensures ∙ c.in_ok-read.ensures.1 in
-    cases_weaker c.read_arguments.result c.read_arguments.ensures
-    (λ none command is. none command is.0 (sym whole ∙ command_parts _ command is))
-    (λ command told. spelled_parts _ command told.0 (whole ∙ told.1))
+    let (first, whole, here) = c.in_ok-verb.ensures in
+    cases_weaker
+    c.read_arguments.result
+    c.read_arguments.ensures
+    (λ none command is.
+    let form = formed command in
+    none command is.0 (follows _ _ c.in_ok-marks.ensures _ _ first c.as_slice.ensures whole _ here (command_words command) (omega (arith, ap length form.first)) (command_parts _ command is) (omega (arith, form.few))))
+    (λ command spelled.
+    spelled_parts _ command spelled.0 (told_by _ _ c.in_ok-marks.ensures _ _ first c.as_slice.ensures whole _ here (command_words command) (omega (arith, (formed command).few)) spelled.1))

@@ -21,7 +21,7 @@ loop-item-preserved g c =
       λ rest show yields shows plain.
           let (told, more, split, still, wrote) = old.2 rest show yields shows plain in
           let item = c.in-Some-item.item in
-          let next = next_of g.I.Iterator.next_gives c.loop-item.item-iterator c.next-in-loop-item.new.self item more still c.in-Some-item.ensures.steps in
+          let next = next_of g.I.Iterator.next_gives (λ x. x) c.loop-item.item-iterator c.next-in-loop-item.new.self item more still c.in-Some-item.ensures.steps in
           let write = rw (shows item) at c.in_ok-write-2.ensures.writes in (
             told ++ item ∷ [],
             next.0,
@@ -34,11 +34,11 @@ loop-item-preserved g c =
 pub returns : goal.returns
 returns g c = λ all show yields shows plain ok.
     let first = c.in-Some.first in
-    let next = next_of g.I.Iterator.next_gives c.args.items c.next.new.self first all yields c.in-Some.ensures.steps in
+    let next = next_of g.I.Iterator.next_gives (λ x. x) c.args.items c.next.new.self first all yields c.in-Some.ensures.steps in
     let write = rw (shows first) at c.in_ok-write.ensures.writes in
     let wrote = write plain refl in
     let start = c.into_iter-item-iterator.ensures.into_iter_gives in
     let (told, more, split, still, others) = c.loop-item.invariant.2 next.0 show (subst (λ s. AlwaysYields g.I.Iterator.next_gives (λ x. x) s next.0) (sym start) next.2) shows wrote.plain in
-    let end = none_of g.I.Iterator.next_gives c.loop-item.item-iterator c.next-in-loop-item.new.self more still c.in-None.ensures.steps in
+    let end = none_of g.I.Iterator.next_gives (λ x. x) c.loop-item.item-iterator c.next-in-loop-item.new.self more still c.in-None.ensures.steps in
     let whole = whole_of told more next.0 all first next.1 split end in
     has_written_of_eq _ _ _ _ _ (ap (parted show c.args.none.now) whole) (has_written_append _ _ _ _ _ _ wrote others)

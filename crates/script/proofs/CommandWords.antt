@@ -1,27 +1,17 @@
 -- The words of commands.
-use Rattle.std.proofs.Common.{◌≡◌, ℕ, ◌≤◌, List, [], ◌∷◌, length, decimal, refl, ap, arith}
+use Rattle.std.proofs.Common.{◌≡◌, ℕ, ◌≤◌, List, [], ◌∷◌, length, sym, refl, ap, ◌∙◌, subst, arith}
 use Rattle.std.specs.List.{AllByRecursion}
 use Rattle.labels.specs.Names.{spelled}
-use Rattle.labels.specs.declared.names.Name.{Name}
 use Rattle.script.specs.declared.commands.Command.{Command}
 use Rattle.script.specs.declared.commands.Command.TheVariants.{Enrol, Admit, Withdraw, Replan, Start, Rest, Show}
 use Rattle.script.specs.declared.commands.Wanted.{Wanted}
 use Rattle.script.specs.declared.verbs.Verb.{Verb}
 use Rattle.script.specs.declared.verbs.Verb.TheVariants as verbs
-use Rattle.script.specs.declared.words.Kind.TheVariants as kinds
 use Rattle.script.specs.Commands.{wanted_words, command_words, ShortWanted, ShortCommand, IsCommand}
 use Rattle.script.specs.Verbs.{verb_word}
-use Rattle.script.specs.Words.{Short, IsWord, WordsOf}
-use Rattle.script.proofs.VerbWords.{verb_spelling}
-
-pub verb_is : (verb : Verb) → IsWord (verb_word verb)
-verb_is verb = (kinds.Name, verb_spelling verb)
-
-name_is : (name : Name) → IsWord (spelled name)
-name_is name = (kinds.Name, name.spells)
-
-pub number_is : (n : ℕ) → Short n → IsWord (decimal n)
-number_is n small = (kinds.Number, (n, small, refl))
+use Rattle.script.specs.Words.{IsWord, parts, spaced}
+use Rattle.script.proofs.KindWords.{verb_is, name_is, number_is, parts_are}
+use Rattle.script.proofs.PartLists.{spaced_parts}
 
 wanted_are : (flow : Wanted) → ShortWanted flow → AllByRecursion IsWord (wanted_words flow)
 wanted_are flow (number, source, destination, demand) =
@@ -52,6 +42,15 @@ formed Start = record { verb = verbs.Start; others = []; first = refl; few = ome
 formed Rest = record { verb = verbs.Rest; others = []; first = refl; few = omega arith }
 formed Show = record { verb = verbs.Show; others = []; first = refl; few = omega arith }
 
-pub command_is : (line : List ℕ) (command : Command) → IsCommand line command → WordsOf line (command_words command)
-command_is line command (short, same) =
-    record { some = omega (arith, ap length (formed command).first); each = words_are command short; whole = same }
+-- the parts of a command's line are its words
+pub command_parts : (line : List ℕ) (command : Command) → IsCommand line command → parts line ≡ command_words command
+command_parts line command (short, same) =
+    parts_are line (command_words command) (omega (arith, ap length (formed command).first)) (words_are command short) same
+
+-- each of them is a word
+pub parts_words : (line : List ℕ) (command : Command) → IsCommand line command → AllByRecursion IsWord (parts line)
+parts_words line command is = subst (AllByRecursion IsWord) (sym (command_parts line command is)) (words_are command is.0)
+
+-- a line of such parts is the command
+pub spelled_parts : (line : List ℕ) (command : Command) → ShortCommand command → parts line ≡ command_words command → IsCommand line command
+spelled_parts line command short same = (short, sym (spaced_parts line) ∙ ap spaced same)

@@ -1,8 +1,8 @@
-pub mod NumberWords
-pub mod CutParts
-pub mod WordLists
+pub mod PartLists
+pub mod ItemLists
 pub mod MarkLists
 pub mod VerbWords
+pub mod KindWords
 pub mod FormWords
 pub mod CommandWords
 pub mod TreeWords

@@ -1,19 +1,16 @@
 -- Marks that are kept one after another.
-use Rattle.std.proofs.Common.{◌≡◌, ℕ, zero, suc, ◌+◌, ◌<◌, ◌≤◌, ◌⊎◌, List, [], ◌∷◌, ◌++◌, length, get_or, take, drop, set, Some, None, Option, sym, refl, ◌∙◌, subst, inl, inr, arith, MatchOption}
+use Rattle.std.proofs.Common.{◌≡◌, ℕ, zero, suc, ◌<◌, ◌≤◌, min, ◌⊎◌, List, [], ◌∷◌, ◌++◌, length, get_or, take, drop, sym, refl, ◌∙◌, subst, inl, inr, arith, length-take, ◌==◌, false, ne_eqb, MatchOption}
+use Rattle.std.specs.Bool.{then_some}
 use Rattle.std.specs.List.{AllByRecursion}
 use Rattle.std.proofs.ByRecursion.{All-push}
-use Rattle.std.proofs.lemmas.List.{length_push, get_or_push, get_or_append_left, take_all, drop_all, take_more_set, take-append-le, drop-append-le}
+use Rattle.std.proofs.lemmas.List.{length_push, get_or_push, get_or_append_left, take_all, drop_all, take-append-le, drop-append-le}
 use Rattle.labels.specs.Spellings.{Spelling}
 use Rattle.script.specs.declared.marks.Beyond.{Beyond}
 use Rattle.script.specs.declared.marks.Beyond.TheVariants.{Nothing, Numbers, Names}
 use Rattle.script.specs.declared.marks.Mark.{Mark}
 use Rattle.script.specs.declared.marks.Marks.{Marks}
 use Rattle.script.specs.Words.{IsNumber}
-use Rattle.script.specs.Marks.{Stands, Stand, Past, kept, Marked}
-
-pub cases_weaker : {X : Type 0} (o : Option X) {P P' : Type 0} {Q Q' : X → Type 0} → MatchOption o P Q → (P → P') → ((x : X) → Q x → Q' x) → MatchOption o P' Q'
-cases_weaker None h none some = none h
-cases_weaker (Some x) h none some = some x h
+use Rattle.script.specs.Marks.{Stands, Stand, Past, Marked}
 
 -- what is past the room, with one word more
 pub a_name : (words : List (List ℕ)) (word : List ℕ) → Spelling word → Past Names (words ++ word ∷ [])
@@ -37,6 +34,13 @@ stand_length line [] [] h = refl
 stand_length line [] (word ∷ words) h = absurd h
 stand_length line (mark ∷ marks) [] h = absurd h
 stand_length line (mark ∷ marks) (word ∷ words) h = omega (arith, stand_length line marks words h.1)
+
+-- no words stand exactly at no marks
+pub none_stand : {X : Type 0} (marks : List Mark) (value : X) → MatchOption (then_some (length marks == 0) value) ((line : List ℕ) → Stand line marks [] → ⊥) (λ found. (found ≡ value) × ((line : List ℕ) → Stand line marks []))
+none_stand [] value = (refl, λ line. tt)
+none_stand (mark ∷ marks) value =
+    let some : (length (mark ∷ marks) == 0) ≡ false = ne_eqb (length (mark ∷ marks)) 0 (λ none. omega (arith, none)) in
+    subst (λ none. MatchOption (then_some none value) ((line : List ℕ) → Stand line (mark ∷ marks) [] → ⊥) (λ found. (found ≡ value) × ((line : List ℕ) → Stand line (mark ∷ marks) []))) (sym some) (λ line stand. stand)
 
 pub stand_at : (line : List ℕ) (marks : List Mark) (words : List (List ℕ)) (k : ℕ) (d : Mark) → Stand line marks words → k < length marks → Stands line (get_or marks k d) (get_or words k [])
 stand_at line [] words k d h inside = absurd (omega arith)
@@ -64,25 +68,22 @@ stand_push line [] (w ∷ words) mark word h here = absurd h
 stand_push line (m ∷ marks) [] mark word h here = absurd h
 stand_push line (m ∷ marks) (w ∷ words) mark word h here = (h.0, stand_push line marks words mark word h.1 here)
 
-module _ (line : List ℕ) (marks : Marks) (words : List (List ℕ)) (mark : Mark) (word : List ℕ) (old : Marked line marks words) (here : Stands line mark word) where
-  pub kept_more : (next : Marks) → length marks.room ≡ 128 → marks.count < 128 → next.room ≡ set marks.room marks.count mark → next.count ≡ marks.count + 1 → next.beyond ≡ marks.beyond → Marked line next (words ++ word ∷ [])
-  kept_more next wide few room count beyond =
-      let few : length words < 128 = omega (arith, old.count) in
-      let longer = length_push words word in
-      let same : kept next ≡ kept marks ++ mark ∷ [] = (λ i. take (count i) (room i)) ∙ take_more_set marks.room marks.count mark (omega arith) in
-      let all = take_all 128 words (omega arith) in
+module _ (line : List ℕ) (marks next : Marks) (words : List (List ℕ)) (mark : Mark) (word : List ℕ) (old : Marked line marks words) (here : Stands line mark word) where
+  length_first : length marks.first.items ≡ min 128 (length words)
+  length_first = stand_length line marks.first.items (take 128 words) old.first ∙ length-take 128 words
+
+  pub kept_more : length marks.first.items < 128 → next.first.items ≡ marks.first.items ++ mark ∷ [] → next.beyond ≡ marks.beyond → Marked line next (words ++ word ∷ [])
+  kept_more few same beyond =
+      let all = take_all 128 words (omega (arith, length_first)) in
       record {
-        count = omega (arith, count, old.count, length_push words word);
-        first = subst (λ ms. Stand line ms (take 128 (words ++ word ∷ []))) (sym same) (subst (Stand line (kept marks ++ mark ∷ [])) (sym (take_all 128 (words ++ word ∷ []) (omega arith))) (stand_push line (kept marks) words mark word (subst (Stand line (kept marks)) all old.first) here));
-        past = subst (λ b. Past b (drop 128 (words ++ word ∷ []))) (sym beyond) (subst (Past marks.beyond) (drop_all 128 words (omega arith) ∙ sym (drop_all 128 (words ++ word ∷ []) (omega arith))) old.past);
+        first = subst (λ ms. Stand line ms (take 128 (words ++ word ∷ []))) (sym same) (subst (Stand line (marks.first.items ++ mark ∷ [])) (sym (take_all 128 (words ++ word ∷ []) (omega (arith, length_first, length_push words word)))) (stand_push line marks.first.items words mark word (subst (Stand line marks.first.items) all old.first) here));
+        past = subst (λ b. Past b (drop 128 (words ++ word ∷ []))) (sym beyond) (subst (Past marks.beyond) (drop_all 128 words (omega (arith, length_first)) ∙ sym (drop_all 128 (words ++ word ∷ []) (omega (arith, length_first, length_push words word)))) old.past);
       }
 
-  pub past_more : (next : Marks) → 128 ≤ marks.count → next.room ≡ marks.room → next.count ≡ marks.count → ((ws : List (List ℕ)) → Past marks.beyond ws → Past next.beyond (ws ++ word ∷ [])) → Marked line next (words ++ word ∷ [])
-  past_more next full room count beyond =
-      let many : 128 ≤ length words = omega (arith, old.count) in
-      let same : kept next ≡ kept marks = (λ i. take (count i) (room i)) in
+  pub past_more : length marks.first.items ≡ 128 → next.first.items ≡ marks.first.items → ((ws : List (List ℕ)) → Past marks.beyond ws → Past next.beyond (ws ++ word ∷ [])) → Marked line next (words ++ word ∷ [])
+  past_more full same beyond =
+      let many : 128 ≤ length words = omega (arith, length_first) in
       record {
-        count = omega (arith, count, old.count, length_push words word);
-        first = subst (λ ms. Stand line ms (take 128 (words ++ word ∷ []))) (sym same) (subst (Stand line (kept marks)) (sym (take-append-le 128 words (word ∷ []) many)) old.first);
+        first = subst (λ ms. Stand line ms (take 128 (words ++ word ∷ []))) (sym same) (subst (Stand line marks.first.items) (sym (take-append-le 128 words (word ∷ []) many)) old.first);
         past = subst (Past next.beyond) (sym (drop-append-le 128 words (word ∷ []) many)) (beyond (drop 128 words) old.past);
       }

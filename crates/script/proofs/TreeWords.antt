@@ -16,7 +16,7 @@ use Rattle.script.specs.Marks.{Stands, Stand, Past, After}
 use Rattle.script.specs.Words.{IsNumber, Short}
 use Rattle.script.proofs.FormWords.{same_stand}
 use Rattle.script.proofs.MarkLists.{stand_length, stand_at}
-use Rattle.script.proofs.WordLists.{apart}
+use Rattle.script.proofs.KindWords.{apart}
 
 abbrev blank : Mark
 blank = record { kind = kinds.Name; from = 0; to = 0 }

@@ -1,5 +1,5 @@
 -- Marks, and the words that stand at them.
-use Rattle.std.specs.Prelude.{◌≡◌, ℕ, ◌-◌, ◌<◌, ◌≤◌, min, List, [], ◌∷◌, length, take, drop, slice_index_or}
+use Rattle.std.specs.Prelude.{◌≡◌, ℕ, ◌-◌, ◌<◌, ◌≤◌, List, [], ◌∷◌, length, take, drop, slice_index_or}
 use Rattle.std.specs.List.{AllByRecursion}
 use Rattle.labels.specs.Spellings.{Spelling}
 use Rattle.script.specs.declared.marks.Beyond.{Beyond}
@@ -28,13 +28,9 @@ Past Nothing words = words ≡ []
 Past Numbers words = (1 ≤ length words) × AllByRecursion IsNumber words
 Past Names words = (k : ℕ) × (k < length words) × Spelling (slice_index_or words k [])
 
-abbrev pub kept : Marks → List Mark
-kept marks = take marks.count marks.room
-
 -- these are the marks of the words, of the first 128
 pub record Marked (line : List ℕ) (marks : Marks) (words : List (List ℕ)) : Type 0 where
-  pub count : marks.count ≡ min 128 (length words)
-  pub first : Stand line (kept marks) (take 128 words)
+  pub first : Stand line marks.first.items (take 128 words)
   pub past : Past marks.beyond (drop 128 words)
 
 -- the words after the first: those that are marked, and those past the marks

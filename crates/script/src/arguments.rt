@@ -1,74 +1,86 @@
 //! The words after a command's first, by their marks.
-ghost use Rattle.std.specs.Prelude.{ℕ, [], ◌∷◌, decimal, MatchOption};
+ghost use Rattle.std.specs.Prelude.{◌≡◌, ℕ, List, [], ◌∷◌, decimal, MatchOption, ◌≢◌, ⊤};
 ghost use Rattle.labels.specs.Names.{spelled};
 ghost use Rattle.script.specs.Commands.{wanted_words, ShortWanted};
 ghost use Rattle.script.specs.Marks.{Stands, Stand};
 ghost use Rattle.script.specs.Verbs.{verb_word};
-ghost use Rattle.script.specs.Words.{Short};
+ghost use Rattle.script.specs.Words.{OfKind, Short, word_bytes, word_kind};
 
 use crate::commands::Wanted;
 use crate::marks::{Mark, word_at};
-use crate::verbs::{Verb, read_verb};
+use crate::verbs::Verb;
 use crate::words::Word;
 use labels::names::Name;
 
-/// The verb at a mark.
-pub(crate) fn verb_at(line: &[u8], mark: Mark) -> Option<Verb>
-    ensures { MatchOption result
-        ((verb : Verb) → Stands line.now mark (verb_word verb) → ⊥)
-        (λ verb. Stands line.now mark (verb_word verb)) }
-{
-    match word_at(line, mark)? {
-        Word::Name(bytes) => read_verb(bytes),
-        Word::Number(_) => None,
+/// A value that a word can spell.
+pub(crate) trait Argument: Copy {
+    ghost allowed: { Self → Type 0 };
+
+    ghost spelling: { Self → List ℕ };
+
+    /// The value that the word spells.
+    fn from_word(word: Word<'_>) -> Option<Self>
+        ensures { MatchOption result
+            ((value : Self) → allowed value → OfKind (word_kind word.entry) (spelling value) → word_bytes word.entry ≢ spelling value)
+            (λ value. allowed value × (word_bytes word.entry ≡ spelling value)) };
+}
+
+impl Argument for Name {
+    ghost allowed = { λ name. ⊤ };
+
+    ghost spelling = { spelled };
+
+    fn from_word(word: Word<'_>) -> Option<Name> {
+        match word {
+            Word::Name(bytes) => Name::new(bytes),
+            Word::Number(_) => None,
+        }
     }
 }
 
-/// The name at a mark.
-pub(crate) fn name_at(line: &[u8], mark: Mark) -> Option<Name>
-    ensures { MatchOption result
-        ((name : Name) → Stands line.now mark (spelled name) → ⊥)
-        (λ name. Stands line.now mark (spelled name)) }
-{
-    match word_at(line, mark)? {
-        Word::Name(bytes) => Name::new(bytes),
-        Word::Number(_) => None,
+impl Argument for u16 {
+    ghost allowed = { Short };
+
+    ghost spelling = { decimal };
+
+    fn from_word(word: Word<'_>) -> Option<u16> {
+        match word {
+            Word::Number(number) => Some(number),
+            Word::Name(_) => None,
+        }
     }
 }
 
-/// The number at a mark.
-pub(crate) fn number_at(line: &[u8], mark: Mark) -> Option<u16>
+/// The value that the word at a mark spells.
+pub(crate) fn argument_at<A: Argument>(line: &[u8], mark: Mark) -> Option<A>
     ensures { MatchOption result
-        ((n : ℕ) → Short n → Stands line.now mark (decimal n) → ⊥)
-        (λ n. Short n × Stands line.now mark (decimal n)) }
+        ((value : A) → A.allowed value → Stands line.now mark (A.spelling value) → ⊥)
+        (λ value. A.allowed value × Stands line.now mark (A.spelling value)) }
 {
-    match word_at(line, mark)? {
-        Word::Number(number) => Some(number),
-        Word::Name(_) => None,
-    }
+    A::from_word(word_at(line, mark)?)
 }
 
-/// The name that is the only argument.
-pub(crate) fn sole_name(line: &[u8], arguments: &[Mark]) -> Option<Name>
+/// The value of the only argument.
+pub(crate) fn sole<A: Argument>(line: &[u8], arguments: &[Mark]) -> Option<A>
     ensures { MatchOption result
-        ((name : Name) → Stand line.now arguments.now (spelled name ∷ []) → ⊥)
-        (λ name. Stand line.now arguments.now (spelled name ∷ [])) }
+        ((value : A) → A.allowed value → Stand line.now arguments.now (A.spelling value ∷ []) → ⊥)
+        (λ value. A.allowed value × Stand line.now arguments.now (A.spelling value ∷ [])) }
 {
     match arguments {
-        [name] => name_at(line, *name),
+        [mark] => argument_at(line, *mark),
         _ => None,
     }
 }
 
-/// The number that is the only argument.
-pub(crate) fn sole_number(line: &[u8], arguments: &[Mark]) -> Option<u16>
+/// The verb at the first mark, and the marks after it.
+pub(crate) fn verb_first<'a>(line: &[u8], marks: &'a [Mark]) -> Option<(Verb, &'a [Mark])>
     ensures { MatchOption result
-        ((n : ℕ) → Short n → Stand line.now arguments.now (decimal n ∷ []) → ⊥)
-        (λ n. Short n × Stand line.now arguments.now (decimal n ∷ [])) }
+        ((verb : Verb) (words : List (List ℕ)) → Stand line.now marks.now (verb_word verb ∷ words) → ⊥)
+        (λ found. (first : Mark) × (marks.now ≡ first ∷ found.1.now) × Stands line.now first (verb_word found.0)) }
 {
-    match arguments {
-        [number] => number_at(line, *number),
-        _ => None,
+    match marks {
+        [first, rest @ ..] => Some((argument_at(line, *first)?, rest)),
+        [] => None,
     }
 }
 
@@ -82,10 +94,10 @@ pub(crate) fn read_wanted(line: &[u8], arguments: &[Mark]) -> Option<Wanted>
         return None;
     };
     Some(Wanted {
-        name: name_at(line, *name)?,
-        number: number_at(line, *number)?,
-        source: number_at(line, *source)?,
-        destination: number_at(line, *destination)?,
-        demand: number_at(line, *demand)?,
+        name: argument_at(line, *name)?,
+        number: argument_at(line, *number)?,
+        source: argument_at(line, *source)?,
+        destination: argument_at(line, *destination)?,
+        demand: argument_at(line, *demand)?,
     })
 }

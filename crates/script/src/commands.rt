@@ -4,13 +4,13 @@ ghost use Rattle.script.specs.Commands.{command_words, ShortCommand, IsCommand};
 ghost use Rattle.script.specs.Marks.{Stand};
 ghost use Rattle.script.specs.Verbs.{Follows};
 
-use crate::arguments::{read_wanted, sole_name, verb_at};
+use crate::arguments::{read_wanted, sole, verb_first};
 use crate::marks::{Mark, mark_line};
 use crate::verbs::Verb;
 use labels::names::Name;
 
 /// A flow, as a command wants it: its name and number, its ends, and how many slots it needs.
-#[derive(Clone, Copy)]
+#[derive(Clone, Copy, PartialEq, Eq, Debug)]
 pub struct Wanted {
     pub name: Name,
     pub number: u16,
@@ -20,7 +20,7 @@ pub struct Wanted {
 }
 
 /// What a line of a script asks for, once the fabric and the period are known.
-#[derive(Clone, Copy)]
+#[derive(Clone, Copy, PartialEq, Eq, Debug)]
 pub enum Command {
     Enrol(Wanted),
     Admit(Wanted),
@@ -38,10 +38,7 @@ fn alone(command: Command, arguments: &[Mark]) -> Option<Command>
         ((line : List ℕ) → Stand line arguments.now [] → ⊥)
         (λ found. (found ≡ command) × ((line : List ℕ) → Stand line arguments.now [])) }
 {
-    match arguments {
-        [] => Some(command),
-        _ => None,
-    }
+    arguments.is_empty().then_some(command)
 }
 
 // The command of a verb with its arguments.
@@ -51,9 +48,9 @@ fn read_arguments(line: &[u8], verb: Verb, arguments: &[Mark]) -> Option<Command
         (λ command. ShortCommand command × Follows line.now verb arguments.now (command_words command)) }
 {
     match verb {
-        Verb::Enrol => Some(Command::Enrol(read_wanted(line, arguments)?)),
-        Verb::Admit => Some(Command::Admit(read_wanted(line, arguments)?)),
-        Verb::Withdraw => Some(Command::Withdraw(sole_name(line, arguments)?)),
+        Verb::Enrol => read_wanted(line, arguments).map(Command::Enrol),
+        Verb::Admit => read_wanted(line, arguments).map(Command::Admit),
+        Verb::Withdraw => sole(line, arguments).map(Command::Withdraw),
         Verb::Replan => alone(Command::Replan, arguments),
         Verb::Start => alone(Command::Start, arguments),
         Verb::Rest => alone(Command::Rest, arguments),
@@ -69,8 +66,6 @@ pub fn read_command(line: &[u8]) -> Option<Command>
         (IsCommand line.now) }
 {
     let marks = mark_line(line)?;
-    match marks.as_slice() {
-        [first, rest @ ..] => read_arguments(line, verb_at(line, *first)?, rest),
-        [] => None,
-    }
+    let (verb, arguments) = verb_first(line, marks.as_slice())?;
+    read_arguments(line, verb, arguments)
 }

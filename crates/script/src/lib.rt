@@ -3,14 +3,14 @@
 
 mod arguments;
 pub mod commands;
+mod cuts;
 pub mod descriptions;
-mod ends;
 pub mod groups;
 pub mod laws;
 pub mod lines;
+mod lists;
 mod marks;
 pub mod openings;
 pub mod ranges;
-mod rows;
 mod verbs;
 mod words;

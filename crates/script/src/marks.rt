@@ -1,7 +1,6 @@
 //! Marks: where the words of a line stand. The types stand alone: definitions that contracts cite name them.
-ghost use Rattle.std.specs.Prelude.{◌≤◌};
-
 use crate::words::Kind;
+use arrayvec::ArrayVec;
 
 mod marking;
 
@@ -9,7 +8,7 @@ pub(crate) use marking::{mark_line, word_at};
 
 /// Where a word stands in its line, from its first byte up to the byte after its last, and of what kind it is. A mark refers
 /// to nothing, so it is copied freely; `word_at` hands out the word.
-#[derive(Clone, Copy)]
+#[derive(Clone, Copy, PartialEq, Eq, Debug, Default)]
 pub(crate) struct Mark {
     pub(crate) kind: Kind,
     pub(crate) from: usize,
@@ -17,7 +16,7 @@ pub(crate) struct Mark {
 }
 
 /// What a line has past its first 128 words, of which no mark is kept.
-#[derive(Clone, Copy)]
+#[derive(Clone, Copy, PartialEq, Eq, Debug)]
 pub(crate) enum Beyond {
     Nothing,
     Numbers,
@@ -26,10 +25,8 @@ pub(crate) enum Beyond {
 }
 
 /// The marks of a line's words, of the first 128. Only a tree with too many parents has more.
-#[derive(Clone, Copy)]
+#[derive(Drop)]
 pub(crate) struct Marks {
-    room: [Mark; 128],
-    count: usize,
+    first: ArrayVec<Mark, 128>,
     beyond: Beyond,
-    ghost few: { count ≤ 128 },
 }

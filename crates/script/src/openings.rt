@@ -2,7 +2,7 @@
 ghost use Rattle.std.specs.Prelude.{ℕ, MatchOption};
 ghost use Rattle.script.specs.Openings.{IsOpening};
 
-use crate::arguments::{sole_number, verb_at};
+use crate::arguments::{sole, verb_first};
 use crate::marks::mark_line;
 use crate::verbs::Verb;
 
@@ -13,11 +13,8 @@ pub fn read_opening(line: &[u8]) -> Option<u16>
         (IsOpening line.now) }
 {
     let marks = mark_line(line)?;
-    match marks.as_slice() {
-        [first, rest @ ..] => match verb_at(line, *first)? {
-            Verb::Open => sole_number(line, rest),
-            _ => None,
-        },
-        [] => None,
+    match verb_first(line, marks.as_slice())? {
+        (Verb::Open, arguments) => sole(line, arguments),
+        _ => None,
     }
 }

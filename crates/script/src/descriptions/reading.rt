@@ -4,7 +4,7 @@ ghost use Rattle.script.specs.Marks.{After};
 ghost use Rattle.script.specs.Descriptions.{held, Described, IsDescription};
 ghost use Rattle.script.specs.Verbs.{verb_word};
 
-use crate::arguments::{number_at, sole_number, verb_at};
+use crate::arguments::{argument_at, sole, verb_first};
 use crate::descriptions::{Description, Parents};
 use crate::marks::{Beyond, Mark, mark_line};
 use crate::verbs::Verb;
@@ -27,7 +27,7 @@ fn read_tree(line: &[u8], arguments: &[Mark], beyond: Beyond) -> Option<Descript
 {
     let mut room = [0; 127];
     for (at, mark) in arguments.iter().enumerate() {
-        room[at] = number_at(line, *mark)?;
+        room[at] = argument_at(line, *mark)?;
     }
     let count = arguments.len();
     match beyond {
@@ -45,7 +45,7 @@ fn read_fabric(line: &[u8], verb: Verb, arguments: &[Mark], beyond: Beyond) -> O
         (λ fabric. (words : List (List ℕ)) → After line.now arguments.now beyond words → Described fabric (verb_word verb ∷ words)) }
 {
     match verb {
-        Verb::Line => Some(Description::Line(sole_number(line, arguments)?)),
+        Verb::Line => Some(Description::Line(sole(line, arguments)?)),
         Verb::Tree => read_tree(line, arguments, beyond),
         _ => None,
     }
@@ -58,8 +58,6 @@ pub fn read_description(line: &[u8]) -> Option<Description>
         (IsDescription line.now) }
 {
     let marks = mark_line(line)?;
-    match marks.as_slice() {
-        [first, rest @ ..] => read_fabric(line, verb_at(line, *first)?, rest, marks.beyond()),
-        [] => None,
-    }
+    let (verb, arguments) = verb_first(line, marks.as_slice())?;
+    read_fabric(line, verb, arguments, marks.beyond())
 }

@@ -1,11 +1,12 @@
 //! How the words of a line are marked, and handed out by their marks.
 ghost use Rattle.std.specs.Prelude.{◌≡◌, ℕ, List, [], ◌∷◌, ◌++◌, MatchOption};
-ghost use Rattle.script.specs.Words.{OfKind, word_bytes, word_kind, WordsOf};
-ghost use Rattle.script.specs.Marks.{Stands, Past, kept, Marked};
+ghost use Rattle.std.specs.List.{AllByRecursion};
+ghost use Rattle.script.specs.Marks.{Stands, Past, Marked};
+ghost use Rattle.script.specs.Words.{IsWord, OfKind, parts, word_bytes, word_kind};
 
-use crate::ends::end_before;
 use crate::marks::{Beyond, Mark, Marks};
-use crate::words::{Kind, Word, kind_of, read_word};
+use crate::words::{Kind, Word, kind_of};
+use arrayvec::ArrayVec;
 
 /// The word that stands at the mark; none where the line has no word of that kind there.
 pub(crate) fn word_at<'a>(line: &'a [u8], mark: Mark) -> Option<Word<'a>>
@@ -13,10 +14,7 @@ pub(crate) fn word_at<'a>(line: &'a [u8], mark: Mark) -> Option<Word<'a>>
         ((word : List ℕ) → Stands line.now mark word → ⊥)
         (λ word. Stands line.now mark (word_bytes word) × (word_kind word ≡ mark.kind)) }
 {
-    match line.get(mark.from..mark.to) {
-        Some(bytes) => read_word(bytes, mark.kind),
-        None => None,
-    }
+    Word::new(line.get(mark.from..mark.to)?, mark.kind)
 }
 
 impl Beyond {
@@ -39,14 +37,8 @@ impl Marks {
     fn none() -> Marks
         ensures { (line : List ℕ) → Marked line result [] }
     {
-        let unused = Mark {
-            kind: Kind::Name,
-            from: 0,
-            to: 0,
-        };
         Marks {
-            room: [unused; 128],
-            count: 0,
+            first: ArrayVec::new(),
             beyond: Beyond::Nothing,
         }
     }
@@ -55,19 +47,16 @@ impl Marks {
     fn push(&mut self, mark: Mark)
         ensures { (line : List ℕ) (words : List (List ℕ)) (word : List ℕ) → Marked line self.old words → Stands line mark word → Marked line self.new (words ++ word ∷ []) }
     {
-        if self.count < self.room.len() {
-            self.room[self.count] = mark;
-            self.count += 1;
-            return;
+        if self.first.try_push(mark).is_err() {
+            self.beyond = self.beyond.and(mark.kind);
         }
-        self.beyond = self.beyond.and(mark.kind);
     }
 
     /// The marks of the words, of the first 128.
     pub(crate) fn as_slice(&self) -> &[Mark]
-        ensures { result.now ≡ kept self.now }
+        ensures { result.now ≡ self.now.first.items }
     {
-        &self.room[0..self.count]
+        &self.first
     }
 
     /// What the line has past those.
@@ -78,23 +67,22 @@ impl Marks {
     }
 }
 
-/// The marks of the line's words; none where the line is not words parted by one space.
+/// The marks of the line's words; none where a part between its spaces is no word.
 pub(crate) fn mark_line(line: &[u8]) -> Option<Marks>
     ensures { MatchOption result
-        ((words : List (List ℕ)) → WordsOf line.now words → ⊥)
-        (λ marks. (words : List (List ℕ)) × WordsOf line.now words × Marked line.now marks words) }
+        (AllByRecursion IsWord (parts line.now) → ⊥)
+        (λ marks. Marked line.now marks (parts line.now)) }
 {
     let mut marks = Marks::none();
     let mut from = 0;
-    loop {
-        let to = end_before(line, from, b' ');
-        let Some(kind) = kind_of(&line[from..to]) else {
-            return None;
-        };
-        marks.push(Mark { kind, from, to });
-        if to == line.len() {
-            return Some(marks);
-        }
+    for part in line.split(|byte| *byte == b' ') {
+        let to = from + part.len();
+        marks.push(Mark {
+            kind: kind_of(part)?,
+            from,
+            to,
+        });
         from = to + 1;
     }
+    Some(marks)
 }

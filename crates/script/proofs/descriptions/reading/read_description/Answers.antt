@@ -1,24 +1,29 @@
-use Rattle.std.proofs.Common.{arith, rules, ltb-false}
-use Rattle.script.proofs.DescriptionWords.{spelled, none_without_verb, described, none_described}
-use Rattle.script.proofs.MarkLists.{cases_weaker}
+use Rattle.std.proofs.Common.{sym, subst}
+use Rattle.script.specs.Descriptions.{Described}
+use Rattle.script.specs.Marks.{After}
+use Rattle.script.proofs.DescriptionWords.{description_parts, described_parts, formed, others, parts_words}
+use Rattle.script.proofs.FormWords.{no_verb}
+use Rattle.script.proofs.PartLists.{cases_weaker}
 use Rattle.script.proofs.descriptions.reading.read_description.Goals as goal
 
 pub returns-in_err-marks : goal.returns-in_err-marks
 returns-in_err-marks c =
-    rw c.from_residual.ensures (λ fabric is. c.in_err-marks.ensures _ (spelled _ fabric is).2)
+    rw c.from_residual.ensures (λ fabric is. c.in_err-marks.ensures (parts_words _ fabric is))
 
-pub returns-in_err-verb_at-in-len1-up : goal.returns-in_err-verb_at-in-len1-up
-returns-in_err-verb_at-in-len1-up c =
-    let marked = c.in_ok-marks.ensures in
-    rw c.from_residual-in_err-verb_at-in-len1-up.ensures
-    (none_without_verb _ _ _ _ _ marked.1 marked.2 c.as_slice.ensures (omega (arith, ltb-false)) c.in_err-verb_at-in-len1-up.ensures)
+pub returns-in_err-verb : goal.returns-in_err-verb
+returns-in_err-verb c =
+    rw c.from_residual-in_err-verb.ensures
+    (λ fabric is.
+    let form = formed fabric _ (description_parts _ fabric is) in
+    no_verb _ _ c.in_ok-marks.ensures _ c.as_slice.ensures c.in_err-verb.ensures form.verb form.others form.first)
 
-pub returns-in_ok-verb_at-in-len1-up : goal.returns-in_ok-verb_at-in-len1-up
-returns-in_ok-verb_at-in-len1-up c =
-    let marked = c.in_ok-marks.ensures in
-    let here = c.in_ok-verb_at-in-len1-up.ensures in
+pub returns : goal.returns
+returns c =
+    let (first, whole, here) = c.in_ok-verb.ensures in
+    let (words, same, after) = others _ _ c.in_ok-marks.ensures _ _ first c.as_slice.ensures whole _ here in
+    let past = subst (λ beyond. After c.args.line.now c.in_ok-verb.arguments.now beyond words) (sym c.beyond.ensures) after in
     cases_weaker
     c.read_fabric.result
     c.read_fabric.ensures
-    (λ none. none_described _ _ _ _ _ marked.1 marked.2 c.as_slice.ensures (omega (arith, ltb-false)) _ here _ c.beyond.ensures (search rules))
-    (λ fabric reads. described _ _ _ _ _ marked.1 marked.2 c.as_slice.ensures (omega (arith, ltb-false)) _ here _ c.beyond.ensures fabric (search rules))
+    (λ none fabric is. none words past fabric (subst (Described fabric) same (description_parts _ fabric is)))
+    (λ fabric reads. described_parts _ fabric (subst (Described fabric) (sym same) (reads words past)))

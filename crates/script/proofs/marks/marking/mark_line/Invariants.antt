@@ -1,12 +1,17 @@
-use Rattle.std.proofs.Common.{ℕ, ◌+◌, ◌-◌, ◌≤◌, List, length}
+use Rattle.std.proofs.Common.{◌≡◌, ℕ, List, ◌++◌}
+use Rattle.std.specs.Iterator.{AlwaysYields}
 use Rattle.script.specs.Marks.{Marked}
-use Rattle.script.proofs.WordLists.{SoFar}
+use Rattle.script.specs.Words.{parts}
+use Rattle.script.proofs.PartLists.{Ahead}
 use Rattle.script.proofs.marks.marking.mark_line.Given as goal
 
--- the words before `from` are marked
-abbrev pub invariant-loop-kind : goal.invariant-loop-kind
-invariant-loop-kind l =
-    (l.from ≤ length l.line) × ((words : List (List ℕ)) × SoFar l.line l.from words × Marked l.line l.marks words)
-
-abbrev pub decreases-loop-kind : goal.decreases-loop-kind
-decreases-loop-kind l = length l.line + 1 - l.from
+-- the parts so far are marked, and the others stand from here on
+abbrev pub invariant-loop-part : goal.invariant-loop-part
+invariant-loop-part l =
+    (goal.iterator-loop-part).can_next l.part-iterator
+    × (goal.iterator-loop-part).is_finite l.part-iterator
+    × ((told : List (List ℕ)) × (more : List (List ℕ))
+    × (parts l.line ≡ told ++ more)
+    × AlwaysYields (goal.iterator-loop-part).next_gives (λ part. part.now) l.part-iterator more
+    × Ahead l.line l.from more
+    × Marked l.line l.marks told)

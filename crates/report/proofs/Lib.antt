@@ -1,8 +1,6 @@
 pub mod AscendingLists
 pub mod CommaLists
 pub mod CommaWords
-pub mod FabricWords
-pub mod NumberWords
 pub mod OptionWords
 pub mod PairWords
 pub mod RequestWords

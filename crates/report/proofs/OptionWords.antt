@@ -1,5 +1,5 @@
 -- The words of the options.
-use Rattle.std.proofs.Common.{◌≡◌, ℕ, ◌+◌, ◌<◌, List, [], ◌∷◌, ◌++◌, length, get_or, drop, Some, None, codes, decimal, sym, refl, ap, ◌∙◌, append-nil, arith, length-append, Bor}
+use Rattle.std.proofs.Common.{◌≡◌, ℕ, ◌<◌, List, [], ◌∷◌, ◌++◌, length, drop, Some, None, codes, decimal, sym, refl, ap, ◌∙◌, append-nil, arith, length-append, Bor}
 use Rattle.std.proofs.ByRecursion.{All-push}
 use Rattle.std.proofs.lemmas.List.{length_push}
 use Rattle.std.proofs.lemmas.Str.Pattern.{IsSplitOnceResult, split_after, split_parts}
@@ -7,7 +7,10 @@ use Rattle.fabric.specs.declared.modules.Module.{Module}
 use Rattle.report.specs.Requests.{module_word, module_words, ShortModule, IsModule, OptionsTo}
 use Rattle.report.specs.Spelled.{IsNumber}
 use Rattle.report.proofs.CommaWords.{no_comma, comma_in}
-use Rattle.report.proofs.WordPlaces.{inside, two}
+use Rattle.report.specs.Words.{all_of}
+use Rattle.report.specs.declared.words.Word.{Word}
+use Rattle.report.specs.declared.words.Words.{Words}
+use Rattle.report.proofs.WordPlaces.{Taken, two}
 
 -- a module is two numbers about a comma
 flat : (m : Module) → module_word m ≡ decimal m.port ++ (44 ∷ decimal m.count)
@@ -26,7 +29,7 @@ module_made bs x m cut first second =
     (split_parts 44 bs (Some x) cut (omega arith)).0 ∙ (λ i. first i ++ (44 ∷ second i)) ∙ sym (flat m)
 
 -- a module's word is not empty
-pub module_some : (m : Module) → 0 < length (module_word m)
+module_some : (m : Module) → 0 < length (module_word m)
 module_some m = omega (arith, ap length (flat m), length-append (decimal m.port) (44 ∷ decimal m.count))
 
 push : (ms : List Module) (m : Module) (rest : List (List ℕ)) → module_words ms ++ (codes "--spur" ∷ module_word m ∷ rest) ≡ module_words (ms ++ m ∷ []) ++ rest
@@ -34,11 +37,15 @@ push [] m rest = refl
 push (k ∷ ms) m rest = ap (λ l. codes "--spur" ∷ module_word k ∷ l) (push ms m rest)
 
 -- one option more is read
-pub option_more : (ws : List (List ℕ)) (ms : List Module) (m : Module) (at : ℕ) → OptionsTo ws ms at → get_or ws at [] ≡ codes "--spur" → ShortModule m → get_or ws (at + 1) [] ≡ module_word m → OptionsTo ws (ms ++ m ∷ []) (at + 2)
-option_more ws ms m at (short, place, before) spur small word = (
+pub option_more : (s mid after : Words) (at : ℕ) (a b : Word) (ms : List Module) (m : Module) → OptionsTo (all_of s) ms at → Taken s mid at a → Taken s after mid.at b → a.text.now ≡ codes "--spur" → ShortModule m → b.text.now ≡ module_word m → OptionsTo (all_of s) (ms ++ m ∷ []) after.at
+option_more s mid after at a b ms m (short, place, before) first second spur small word = (
   All-push ShortModule ms m short small,
-  omega (arith, length_push ms m),
+  omega (arith, length_push ms m, first.next, second.next),
   before
-      ∙ ap (λ l. module_words ms ++ l) (two ws at _ _ (inside ws (at + 1) _ word (module_some m)) spur word)
-      ∙ push ms m (drop (at + 2) ws),
+      ∙ ap (λ l. module_words ms ++ l) (two s mid after at a b first second ∙ (λ i. spur i ∷ word i ∷ drop after.at (all_of s)))
+      ∙ push ms m (drop after.at (all_of s)),
 )
+
+-- the end of the words is no module
+pub nothing_left : (word : List ℕ) → word ≡ [] → IsModule word → ⊥
+nothing_left word e (m, short, spelled) = omega (arith, ap length (sym e ∙ spelled), module_some m)

@@ -1,23 +1,26 @@
-use Rattle.std.proofs.Common.{◌≡◌, ◌+◌, [], map, get_or, string_bytes, codes, sym, ◌∙◌, arith}
-use Rattle.std.proofs.lemmas.List.{length-map}
-use Rattle.std.proofs.lemmas.Slice.Eq.{bytes_eq-Decides}
-use Rattle.report.specs.Requests.{module_word}
-use Rattle.report.proofs.OptionWords.{module_some, option_more}
-use Rattle.report.proofs.WordPlaces.{inside}
+use Rattle.std.proofs.Common.{◌≡◌, ◌+◌, [], vec_items, refl, ◌∙◌, subst, arith}
+use Rattle.std.proofs.lemmas.List.{get_or_past}
+use Rattle.std.proofs.lemmas.Result.{err_from_is_err_and}
+use Rattle.report.specs.declared.misuses.Misuse.TheVariants.{NotAModule}
+use Rattle.report.specs.Words.{all_of, Takes}
+use Rattle.report.proofs.OptionWords.{option_more, nothing_left}
+use Rattle.report.proofs.WordPlaces.{taken, none_left}
 use Rattle.report.proofs.options.read_modules.Goals as goal
 
-spur : (c : goal.In_ok-push) → get_or (map string_bytes c.args.words.now) c.loop-module.at [] ≡ codes "--spur"
-spur c =
-    sym c.word_at.ensures ∙ (bytes_eq-Decides c.word_at.result.now (codes "--spur")).0 (sym c.eq.ensures ∙ c.loop-module-test.true)
+pub loop-spur-preserved : goal.loop-spur-preserved
+loop-spur-preserved c =
+    let first = taken c.args.words.now c.loop-spur.words c.next_if.new.self c.loop-spur.invariant.0 c.in-Some.spur c.in-Some.ensures.0 in
+    let gives = subst (λ o. Takes c.next_if.new.self o c.next.new.self) c.in_ok-word.ensures.ok_part c.next.ensures.steps in
+    let second = taken c.args.words.now c.next_if.new.self c.next.new.self first.same c.in_ok-word.word gives in
+    (second.same, rw c.in_ok-push.ensures.items (option_more c.args.words.now c.next_if.new.self c.next.new.self _ _ _ _ _ c.loop-spur.invariant.1 first second (c.in-Some.ensures.0.2 ∙ c.in-Some.ensures.1) c.in_ok-module.ensures.0 c.in_ok-module.ensures.1))
 
-word : (c : goal.In_ok-push) → get_or (map string_bytes c.args.words.now) (c.loop-module.at + 1) [] ≡ module_word c.in-Some.«module»
-word c = sym c.word_at-in-loop-module.ensures ∙ c.in-Some.ensures.1
-
-pub loop-module-smaller : goal.loop-module-smaller
-loop-module-smaller c =
-    let within = inside (map string_bytes c.args.words.now) _ _ (word c) (module_some c.in-Some.«module») in
-    omega (arith, length-map c.args.words.now string_bytes)
-
-pub loop-module-preserved : goal.loop-module-preserved
-loop-module-preserved c =
-    rw c.in_ok-push.ensures.items (option_more _ _ _ _ c.loop-module.invariant (spur c) c.in-Some.ensures.0 (word c))
+pub returns-in_err-word-clause-read : goal.returns-in_err-word-clause-read
+returns-in_err-word-clause-read c =
+    let p = err_from_is_err_and c.from_residual.result c.from_residual.ensures.1 in
+    let first = taken c.args.words.now c.loop-spur.words c.next_if.new.self c.loop-spur.invariant.0 c.in-Some.spur c.in-Some.ensures.0 in
+    let none = subst (λ o. Takes c.next_if.new.self o c.next.new.self) c.in_err-word.ensures.ok_part c.next.ensures.steps in
+    let past = none_left c.args.words.now c.next_if.new.self c.next.new.self first.same none in
+    let fault = rw c.in_err-word.ensures.ok_part at c.in_err-word.ensures.value in
+    let is : c.in_err-word.field-0.0 ≡ NotAModule (c.in-Some.spur.place + 1) = cc in
+    rw (p.1, p.2, is, first.place)
+    (vec_items c.loop-spur.modules, c.loop-spur.words.at, c.loop-spur.invariant.1, first.text ∙ (c.in-Some.ensures.0.2 ∙ c.in-Some.ensures.1), refl, nothing_left _ (get_or_past (all_of c.args.words.now) (c.loop-spur.words.at + 1) [] (omega (arith, past, first.next))))

@@ -1,13 +1,14 @@
 -- The words of the options.
-use Rattle.std.proofs.Common.{◌≡◌, ℕ, ◌<◌, List, [], ◌∷◌, ◌++◌, length, drop, Some, None, codes, decimal, sym, refl, ap, ◌∙◌, append-nil, arith, length-append, Bor}
+use Rattle.std.proofs.Common.{◌≡◌, ℕ, ◌<◌, List, [], ◌∷◌, ◌++◌, length, drop, Some, None, Option, MatchOption, codes, decimal, sym, refl, ap, ◌∙◌, subst, append-nil, arith, length-append, Bor}
 use Rattle.std.proofs.ByRecursion.{All-push}
-use Rattle.std.proofs.lemmas.List.{length_push}
+use Rattle.std.proofs.lemmas.List.{length_push, get_or_past}
+use Rattle.std.proofs.lemmas.Option.{none-some}
 use Rattle.std.proofs.lemmas.Str.Pattern.{IsSplitOnceResult, split_after, split_parts}
 use Rattle.fabric.specs.declared.modules.Module.{Module}
 use Rattle.report.specs.Requests.{module_word, module_words, ShortModule, IsModule, OptionsTo}
 use Rattle.report.specs.Spelled.{IsNumber}
 use Rattle.report.proofs.CommaWords.{no_comma, comma_in}
-use Rattle.report.specs.Words.{all_of}
+use Rattle.report.specs.Words.{all_of, next_of, Takes}
 use Rattle.report.specs.declared.words.Word.{Word}
 use Rattle.report.specs.declared.words.Words.{Words}
 use Rattle.report.proofs.WordPlaces.{Taken, two}
@@ -46,6 +47,19 @@ option_more s mid after at a b ms m (short, place, before) first second spur sma
       ∙ push ms m (drop after.at (all_of s)),
 )
 
--- the end of the words is no module
-pub nothing_left : (word : List ℕ) → word ≡ [] → IsModule word → ⊥
-nothing_left word e (m, short, spelled) = omega (arith, ap length (sym e ∙ spelled), module_some m)
+-- the module that the next word spells, if there is one
+abbrev pub Spells : Option Word → Option Module → Type 0
+Spells next found =
+    MatchOption next (found ≡ None) (λ word. MatchOption found (IsModule word.text.now → ⊥) (λ m. ShortModule m × (word.text.now ≡ module_word m)))
+
+module _ (r after : Words) where
+  pub spelled : (next : Option Word) (found : Option Module) (m : Module) → Takes r next after → Spells next found → found ≡ Some m → (word : Word) × Takes r (Some word) after × ShortModule m × (word.text.now ≡ module_word m)
+  spelled None found m takes spells some = absurd (none-some m (sym spells ∙ some))
+  spelled (Some word) found m takes spells some =
+      let told = rw some at spells in (word, takes, told.0, told.1)
+
+  pub not_spelled : (next : Option Word) (found : Option Module) → Takes r next after → Spells next found → found ≡ None → IsModule (next_of r) → ⊥
+  not_spelled None found takes spells none (m, short, e) =
+      omega (arith, ap length (sym (get_or_past (all_of r) r.at [] takes.0) ∙ e), module_some m)
+  not_spelled (Some word) found takes spells none is =
+      let told = rw none at spells in told (subst IsModule (sym takes.2) is)

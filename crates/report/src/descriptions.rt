@@ -31,7 +31,7 @@ impl Description {
 // The fabric that the next two words describe, after the options.
 pub(crate) fn read_description(heap: Global, words: &mut Words) -> Result<Description, Misuse>
     requires { ((ms : List Module) × OptionsTo (all_of words.old) ms words.old.at) × (next_of words.old ≢ codes "--spur") }
-    ensures same { words.new.all ≡ words.old.all }
+    ensures same { all_of words.new ≡ all_of words.old }
     ensures read { MatchResult result (λ d. (words.new.at ≡ words.old.at + 2) × FabricTo (all_of words.old) d words.new.at) (TurnedAway (all_of words.old)) }
 {
     let name = words.next().ok_or(Misuse::UnknownFabric)?;

@@ -22,13 +22,16 @@ pub fn read_module(word: &str) -> Option<Module>
 // The modules of the options, which come first. Each takes two words.
 pub(crate) fn read_modules(heap: Global, words: &mut Words) -> Result<Vec<Module>, Misuse>
     requires { words.old.at ≡ 0 }
-    ensures same { words.new.all ≡ words.old.all }
+    ensures same { all_of words.new ≡ all_of words.old }
     ensures read { MatchResult result (λ ms. OptionsTo (all_of words.old) ms.items words.new.at × (next_of words.new ≢ codes "--spur")) (TurnedAway (all_of words.old)) }
 {
     let mut modules = Vec::new(heap);
     while let Some(spur) = words.next_if("--spur") {
-        let word = words.next().ok_or(Misuse::NotAModule(spur.place + 1))?;
-        modules.push(word.module()?)?;
+        let module = words
+            .next()
+            .and_then(|word| read_module(word.text))
+            .ok_or(Misuse::NotAModule(spur.place + 1))?;
+        modules.push(module)?;
     }
     Ok(modules)
 }

@@ -62,15 +62,12 @@ impl<F: Fabric> Fabric for Pile<F> {
             Pile::Base(fabric) => fabric.crosses(pair, link),
             Pile::Joined(below, module) => {
                 let size = below.size();
-                match module.hop(size, pair) {
-                    Hop::Below => below.crosses(pair, link),
-                    Hop::Out(rest) => {
-                        below.reached(rest) && (link == size.links || below.crosses(rest, link))
-                    }
-                    Hop::In(rest) => {
-                        below.reached(rest) && (link == size.links + 1 || below.crosses(rest, link))
-                    }
-                }
+                let (new, rest) = match module.hop(size, pair) {
+                    Hop::Below => return below.crosses(pair, link),
+                    Hop::Out(rest) => (size.links, rest),
+                    Hop::In(rest) => (size.links + 1, rest),
+                };
+                below.reached(rest) && (link == new || below.crosses(rest, link))
             }
         }
     }

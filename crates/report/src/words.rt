@@ -1,16 +1,13 @@
 //! The words of the program's arguments, read one after the other.
 ghost use Rattle.std.specs.Prelude.{◌≡◌, ◌≢◌, ◌⊎◌, ◌<◌, ◌-◌, map, length, string_bytes, decimal, Some, MatchOption, MatchResult};
 ghost use Rattle.std.specs.Iterator.{at_most};
-ghost use Rattle.report.specs.declared.misuses.Misuse.TheVariants.{NotANumber, NotNumbers, NotAModule, NoMemory};
-ghost use Rattle.report.specs.Requests.{module_word, ShortModule, IsModule};
+ghost use Rattle.report.specs.declared.misuses.Misuse.TheVariants.{NotANumber, NotNumbers, NoMemory};
 ghost use Rattle.report.specs.Spelled.{commas, Numbers, IsNumber, IsNumbers};
 ghost use Rattle.report.specs.Words.{all_of, next_of, Takes};
 
 use crate::commas::read_commas;
 use crate::misuses::Misuse;
-use crate::options::read_module;
 use decimals::read_number;
-use fabric::modules::Module;
 use std::alloc::Global;
 
 // A word, and its place among the arguments.
@@ -33,13 +30,6 @@ impl Word<'_> {
         ensures { MatchResult result (λ ns. Numbers ns.items × (self.entry.text.now ≡ commas ns.items)) (λ e. (e ≡ NoMemory) ⊎ ((e ≡ NotNumbers self.entry.place) × (IsNumbers self.entry.text.now → ⊥))) }
     {
         read_commas(heap, self.text)?.ok_or(Misuse::NotNumbers(self.place))
-    }
-
-    // The module that the word spells.
-    pub(crate) fn module(self) -> Result<Module, Misuse>
-        ensures { MatchResult result (λ m. ShortModule m × (self.entry.text.now ≡ module_word m)) (λ e. (e ≡ NotAModule self.entry.place) × (IsModule self.entry.text.now → ⊥)) }
-    {
-        read_module(self.text).ok_or(Misuse::NotAModule(self.place))
     }
 }
 

@@ -6,7 +6,7 @@ use Rattle.report.proofs.options.read_modules.Given as goal
 -- the words that were read are the options of the modules so far
 abbrev pub invariant-loop-spur : goal.invariant-loop-spur
 invariant-loop-spur l =
-    (l.words.all ≡ l.fn.words.all)
+    (all_of l.words ≡ all_of l.fn.words)
     × OptionsTo (all_of l.fn.words) (vec_items l.modules) l.words.at
 
 abbrev pub decreases-loop-spur : goal.decreases-loop-spur

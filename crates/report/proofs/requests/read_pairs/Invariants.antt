@@ -5,5 +5,5 @@ use Rattle.report.proofs.requests.read_pairs.Given as goal
 
 abbrev pub invariant-loop-word : goal.invariant-loop-word
 invariant-loop-word l =
-    (l.words.all ≡ l.fn.words.all)
+    (all_of l.words ≡ all_of l.fn.words)
     × Read (all_of l.fn.words) l.fn.words.at (vec_items l.pairs) l.words.at

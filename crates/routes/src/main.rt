@@ -71,6 +71,7 @@ fn report_with<F: Fabric + Drop>(
     report_on(rt, &pile, request.pairs.as_slice())
 }
 
+// The tree of these parents.
 fn grown(parents: &[u16]) -> Result<Tree, FabricFault> {
     let mut tree = Tree::new();
     tree.fill(parents)?;

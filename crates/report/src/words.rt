@@ -62,7 +62,7 @@ impl<'a> Words<'a> {
 impl<'a> Iterator for Words<'a> {
     type Item = Word<'a>;
 
-    ghost next_gives = { λ s r t. Takes s r t };
+    ghost next_gives = { Takes };
 
     ghost remaining = { λ s. at_most (length s.all.now - s.at) };
 

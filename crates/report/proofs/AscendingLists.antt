@@ -1,56 +1,49 @@
--- A loop upwards that keeps the numbers of which P holds.
-use Rattle.std.proofs.Common.{◌≡◌, ℕ, ◌+◌, ◌<◌, ◌⊎◌, List, [], ◌∷◌, ◌++◌, length, get_or, sym, refl, ap, ◌∙◌, subst, inl, inr, ⊎_elim, arith}
-use Rattle.std.proofs.lemmas.List.{length_push, get_or_push, get_or_append_left}
+-- The numbers that pass a test, listed upwards.
+use Rattle.std.proofs.Common.{◌≡◌, ℕ, zero, suc, ◌+◌, ◌<◌, ◌≤◌, Bool, true, false, cond, ◌⊎◌, List, ◌∷◌, length, get_or, filter, sym, refl, ap, ◌∙◌, inl, inr, ⊎_elim, arith}
+use Rattle.std.specs.List.{range_with_len}
 use Rattle.std.proofs.lemmas.Bool.Decides.{eqb_tells}
 use Rattle.report.specs.Links.{Ascending}
 
-module _ (P : ℕ → Type 0) where
-  abbrev pub Below : ℕ → ℕ → Type 0
-  Below n k = (k < n) × P k
+-- a number before a list of greater ones
+module _ {P Q : ℕ → Type 0} (a : ℕ) {ks : List ℕ} (rest : Ascending Q ks) (here : P a) (after : (k : ℕ) → Q k → (a < k) × P k) where
+  rises : (i j : ℕ) → i < j → j < length (a ∷ ks) → get_or (a ∷ ks) i 0 < get_or (a ∷ ks) j 0
+  rises zero zero h l = absurd (omega arith)
+  rises (suc i) zero h l = absurd (omega arith)
+  rises zero (suc j) h l = (after _ (rest.only j (omega arith))).0
+  rises (suc i) (suc j) h l = rest.rises i j (omega arith) (omega arith)
 
-  pub none_yet : Ascending (Below 0) []
-  none_yet = record { rises = λ i j h l. absurd (omega arith); only = λ i l. absurd (omega arith); all = λ k h. absurd (omega (arith, h.0)) }
+  only : (i : ℕ) → i < length (a ∷ ks) → P (get_or (a ∷ ks) i 0)
+  only zero l = here
+  only (suc i) l = (after _ (rest.only i (omega arith))).1
 
-  pub left_out : {n : ℕ} {ks : List ℕ} → Ascending (Below n) ks → (P n → ⊥) → Ascending (Below (n + 1)) ks
-  left_out {n} {ks} old out = record {
-    rises = old.rises;
-    only = λ i l. let o = old.only i l in (omega (arith, o.0), o.1);
-    all = λ k h. ⊎_elim (λ e. absurd (out (subst P e.1 h.1))) (λ e. old.all k (omega (arith, h.0, e.1), h.1)) (eqb_tells k n);
+  pub first_put : ((k : ℕ) → P k → (k ≡ a) ⊎ Q k) → Ascending P (a ∷ ks)
+  first_put split = record {
+    rises = rises;
+    only = only;
+    all = λ k h. ⊎_elim (λ e. (0, omega arith, sym e)) (λ q. let at = rest.all k q in (suc at.0, omega (arith, at.1), at.2)) (split k h);
   }
-
-  module _ {n : ℕ} {ks : List ℕ} (old : Ascending (Below n) ks) (here : P n) where
-    -- each place of the longer list is one of the shorter list's, or its end
-    before : (i : ℕ) → i < length ks → get_or (ks ++ n ∷ []) i 0 ≡ get_or ks i 0
-    before i l = get_or_append_left ks (n ∷ []) 0 i l
-
-    at_end : get_or (ks ++ n ∷ []) (length ks) 0 ≡ n
-    at_end = get_or_push ks n 0 (length ks) refl
-
-    place : (i : ℕ) → i < length (ks ++ n ∷ []) → ((i < length ks) × (get_or (ks ++ n ∷ []) i 0 ≡ get_or ks i 0)) ⊎ ((i ≡ length ks) × (get_or (ks ++ n ∷ []) i 0 ≡ n))
-    place i l =
-        ⊎_elim
-        (λ e. inr (e.1, ap (λ j. get_or (ks ++ n ∷ []) j 0) e.1 ∙ at_end))
-        (λ e. let short : i < length ks = omega (arith, e.1, length_push ks n) in inl (short, before i short))
-        (eqb_tells i (length ks))
-
-    pub taken_in : Ascending (Below (n + 1)) (ks ++ n ∷ [])
-    taken_in = record {
-      rises = λ i j h l. ⊎_elim
-          (λ e. omega (arith, e.1, before i (omega arith), old.rises i j h e.0))
-          (λ e. omega (arith, e.1, before i (omega (arith, e.0)), (old.only i (omega (arith, e.0))).0))
-          (place j l);
-      only = λ i l. ⊎_elim
-          (λ e. let o = old.only i e.0 in (omega (arith, e.1, o.0), subst P (sym e.1) o.1))
-          (λ e. (omega (arith, e.1), subst P (sym e.1) here))
-          (place i l);
-      all = λ k h. ⊎_elim
-          (λ e. (length ks, omega (arith, length_push ks n), at_end ∙ sym e.1))
-          (λ e. let a = old.all k (omega (arith, h.0, e.1), h.1) in (a.0, omega (arith, a.1, length_push ks n), before a.0 a.1 ∙ a.2))
-          (eqb_tells k n);
-    }
-
-  pub all_of_them : {n : ℕ} {ks : List ℕ} → Ascending (Below n) ks → ((k : ℕ) → P k → k < n) → Ascending P ks
-  all_of_them old below = record { rises = old.rises; only = λ i l. (old.only i l).1; all = λ k h. old.all k (below k h, h) }
 
 pub alike : {P Q : ℕ → Type 0} {ks : List ℕ} → ((k : ℕ) → P k → Q k) → ((k : ℕ) → Q k → P k) → Ascending P ks → Ascending Q ks
 alike to from list = record { rises = list.rises; only = λ i l. to _ (list.only i l); all = λ k h. list.all k (from k h) }
+
+module _ (test : ℕ → Bool) where
+  -- one of the n numbers from a on, and it passes
+  abbrev pub Passes : ℕ → ℕ → ℕ → Type 0
+  Passes a n k = (a ≤ k) × (k < a + n) × (test k ≡ true)
+
+  apart : (a n k : ℕ) → Passes a (suc n) k → (k ≡ a) ⊎ Passes (a + 1) n k
+  apart a n k h =
+      ⊎_elim (λ e. inl e.1) (λ e. inr (omega (arith, h.0, e.1), omega (arith, h.1), h.2)) (eqb_tells k a)
+
+  put : (a n : ℕ) {ks : List ℕ} (b : Bool) → test a ≡ b → Ascending (Passes (a + 1) n) ks → Ascending (Passes a (suc n)) (cond b (a ∷ ks) ks)
+  put a n true e rest =
+      first_put a rest (omega arith, omega arith, e) (λ k h. (omega (arith, h.0), (omega (arith, h.0), omega (arith, h.1), h.2))) (apart a n)
+  put a n false e rest =
+      alike
+      (λ k h. (omega (arith, h.0), omega (arith, h.1), h.2))
+      (λ k h. ⊎_elim (λ same. absurd (let both = sym e ∙ ap test (sym same) ∙ h.2 in cc)) (λ q. q) (apart a n k h))
+      rest
+
+  pub passing : (a n : ℕ) → Ascending (Passes a n) (filter test (range_with_len a n))
+  passing a zero = record { rises = λ i j h l. absurd (omega arith); only = λ i l. absurd (omega arith); all = λ k h. absurd (omega (arith, h.0, h.1)) }
+  passing a (suc n) = put a n (test a) refl (passing (a + 1) n)

@@ -1,19 +1,14 @@
--- Numbers parted by commas, as a loop reads them: it cuts at the first comma of what is left.
-use Rattle.std.proofs.Common.{◌≡◌, ℕ, ◌<◌, ◌≤◌, List, [], ◌∷◌, ◌++◌, length, get_or, Some, None, codes, decimal, sym, refl, ap, ◌∙◌, append_assoc, append-nil, arith, length-append, Bor}
-use Rattle.std.specs.List.{flat_map}
+-- Numbers parted by commas: cut at the commas they are the numbers' own words.
+use Rattle.std.proofs.Common.{◌≡◌, ◌==◌, ℕ, zero, suc, ◌<◌, false, List, [], ◌∷◌, ◌++◌, length, map, get_or, decimal, sym, refl, ap, ◌∙◌, append-nil, arith, length-append}
+use Rattle.std.specs.List.{All, AllByRecursion, slice_split, join_with_byte}
+use Rattle.std.proofs.lemmas.Bool.{ne_eqb}
 use Rattle.std.proofs.lemmas.Fmt.{digits_decimal}
-use Rattle.std.proofs.lemmas.List.{get_or_at, flat_map_more, length_push}
+use Rattle.std.proofs.lemmas.List.{get_or_at, get_or_default}
+use Rattle.std.proofs.lemmas.List.Elements.{All-from_get_or}
+use Rattle.std.proofs.lemmas.List.Splits.{slice_split_none, slice_split_at, length-slice_split, join_with_byte-slice_split}
 use Rattle.std.proofs.lemmas.Str.Parse.{digit_at}
-use Rattle.std.proofs.lemmas.Str.Pattern.{IsSplitOnceResult, split_after, split_parts}
-use Rattle.report.specs.Spelled.{commas, Short, IsNumber, IsNumbers}
-use Rattle.report.proofs.NumberWords.{own}
-
--- numbers, each with a comma after it
-abbrev before_comma : ℕ → List ℕ
-before_comma m = decimal m ++ codes ","
-
-abbrev pub ended : List ℕ → List ℕ
-ended ns = flat_map before_comma ns
+use Rattle.decimals.proofs.NumberWords.{own}
+use Rattle.report.specs.Spelled.{commas, Short, Numbers, IsNumber, IsNumbers}
 
 pub no_comma : (n : ℕ) → Short n → (i : ℕ) → i < length (decimal n) → get_or (decimal n) i 0 ≡ 44 → ⊥
 no_comma n small i inside e =
@@ -24,45 +19,42 @@ pub comma_in : (bs xs ys : List ℕ) → bs ≡ xs ++ (44 ∷ ys) → ((i : ℕ)
 comma_in bs xs ys e none =
     none (length xs) (omega (arith, ap length e, length-append xs (44 ∷ ys))) (ap (λ l. get_or l (length xs) 0) e ∙ get_or_at xs 44 ys 0 (length xs) refl)
 
--- the first number stands before the first comma
-pub first_of : (bs : List ℕ) (x : Bor (List ℕ) × Bor (List ℕ)) → IsSplitOnceResult 44 bs (Some x) → IsNumbers bs → IsNumber x.0.now × IsNumbers x.1.now
-first_of bs x split ([], (some, all), e) = absurd (omega arith)
-first_of bs x split (k ∷ [], (some, all), e) =
-    let parts = split_parts 44 bs (Some x) split (omega arith) in
-    absurd (comma_in (decimal k) x.0.now x.1.now (sym (append-nil (decimal k)) ∙ sym e ∙ parts.0) (no_comma k all.0))
-first_of bs x split (k ∷ m ∷ ks, (some, all), e) =
-    let parts = split_after 44 bs (decimal k) (commas (m ∷ ks)) (Some x) split (omega arith) e (no_comma k all.0) in
-    ((k, all.0, parts.0), (m ∷ ks, (omega arith, all.1), parts.1))
+-- the parts between the commas
+abbrev pub parts : List ℕ → List (List ℕ)
+parts word = slice_split (λ b. b == 44) word
 
--- without a comma there is one number
-pub alone : (bs : List ℕ) → IsSplitOnceResult 44 bs None → IsNumbers bs → IsNumber bs
-alone bs split ([], (some, all), e) = absurd (omega arith)
-alone bs split (k ∷ [], (some, all), e) = (k, all.0, e ∙ append-nil (decimal k))
-alone bs split (k ∷ m ∷ ks, (some, all), e) =
-    absurd (comma_in bs (decimal k) (commas (m ∷ ks)) e (split_parts 44 bs None split (omega arith)))
+one_part : (n : ℕ) → Short n → All (λ b. (b == 44) ≡ false) (decimal n)
+one_part n small =
+    All-from_get_or (λ b. (b == 44) ≡ false) (decimal n) 0 (λ i inside. ne_eqb _ _ (no_comma n small i inside))
 
--- one number more is read
-pub read_more : (word ns : List ℕ) (n : ℕ) (rest : List ℕ) (x : Bor (List ℕ) × Bor (List ℕ)) → IsSplitOnceResult 44 rest (Some x) → word ≡ ended ns ++ rest → x.0.now ≡ decimal n → word ≡ ended (ns ++ n ∷ []) ++ x.1.now
-read_more word ns n rest x split before same =
-    let parts = split_parts 44 rest (Some x) split (omega arith) in
-    let flat : (ended ns ++ before_comma n) ++ x.1.now ≡ ended ns ++ (decimal n ++ (44 ∷ x.1.now)) = simp append_assoc in
-    before
-    ∙ ap (λ l. ended ns ++ l) (parts.0 ∙ ap (λ l. l ++ (44 ∷ x.1.now)) same)
-    ∙ sym flat
-    ∙ ap (λ l. l ++ x.1.now) (flat_map_more before_comma [] ns n)
+parts_of : (n : ℕ) (ns : List ℕ) → AllByRecursion Short (n ∷ ns) → parts (commas (n ∷ ns)) ≡ map decimal (n ∷ ns)
+parts_of n [] short =
+    ap parts (append-nil (decimal n)) ∙ slice_split_none _ (decimal n) (one_part n short.0)
+parts_of n (m ∷ ns) short =
+    slice_split_at _ (decimal n) 44 (commas (m ∷ ns)) (one_part n short.0) refl ∙ ap (λ l. decimal n ∷ l) (parts_of m ns short.1)
 
-comma_after : (n : ℕ) (ks : List ℕ) → 1 ≤ length ks → commas (n ∷ ks) ≡ decimal n ++ (44 ∷ commas ks)
-comma_after n [] some = absurd (omega arith)
-comma_after n (k ∷ ks) some = refl
+number_at : (ns : List ℕ) → AllByRecursion Short ns → (i : ℕ) → i < length (map decimal ns) → IsNumber (get_or (map decimal ns) i [])
+number_at [] short i inside = absurd (omega arith)
+number_at (n ∷ ns) short zero inside = (n, short.0, refl)
+number_at (n ∷ ns) short (suc i) inside = number_at ns short.1 i (omega arith)
 
-told : (ns : List ℕ) (n : ℕ) → ended ns ++ decimal n ≡ commas (ns ++ n ∷ [])
-told [] n = sym (append-nil (decimal n))
-told (m ∷ ns) n =
-    let flat : ended (m ∷ ns) ++ decimal n ≡ decimal m ++ (44 ∷ (ended ns ++ decimal n)) = simp append_assoc in
-    flat
-    ∙ ap (λ l. decimal m ++ (44 ∷ l)) (told ns n)
-    ∙ sym (comma_after m (ns ++ n ∷ []) (omega (arith, length_push ns n)))
+-- each part of a word that spells numbers spells a number
+pub part_number : (word part : List ℕ) (i : ℕ) → IsNumbers word → i < length (parts word) → part ≡ get_or (parts word) i part → IsNumber part
+part_number word part i ([], (some, short), e) inside is = absurd (omega arith)
+part_number word part i (n ∷ ns, (some, short), e) inside is =
+    let cut : parts word ≡ map decimal (n ∷ ns) = ap parts e ∙ parts_of n ns short in
+    let number = number_at (n ∷ ns) short i (omega (arith, inside, ap length cut)) in
+    (number.0, number.1, is ∙ get_or_default (parts word) i part [] inside ∙ ap (λ l. get_or l i []) cut ∙ number.2)
 
--- the last number is read
-pub read_last : (word ns : List ℕ) (n : ℕ) (rest : List ℕ) → word ≡ ended ns ++ rest → rest ≡ decimal n → word ≡ commas (ns ++ n ∷ [])
-read_last word ns n rest before same = before ∙ ap (λ l. ended ns ++ l) same ∙ told ns n
+joined : (n : ℕ) (ns : List ℕ) → join_with_byte 44 (map decimal (n ∷ ns)) ≡ commas (n ∷ ns)
+joined n [] = sym (append-nil (decimal n))
+joined n (m ∷ ns) = ap (λ l. decimal n ++ (44 ∷ l)) (joined m ns)
+
+-- a word whose parts spell numbers spells them
+pub all_parts : (word ns : List ℕ) → AllByRecursion Short ns → parts word ≡ map decimal ns → Numbers ns × (word ≡ commas ns)
+all_parts word [] short cut =
+    absurd (omega (arith, length-slice_split (λ b. b == 44) word, ap length cut))
+all_parts word (n ∷ ns) short cut = (
+  (omega arith, short),
+  sym (join_with_byte-slice_split 44 word) ∙ ap (join_with_byte 44) cut ∙ joined n ns,
+)

@@ -1,9 +1,8 @@
 pub mod AscendingLists
 pub mod CommaLists
 pub mod CommaWords
-pub mod FabricWords
-pub mod NumberWords
 pub mod OptionWords
 pub mod PairWords
+pub mod Refusals
 pub mod RequestWords
 pub mod WordPlaces

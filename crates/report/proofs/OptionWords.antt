@@ -1,13 +1,17 @@
 -- The words of the options.
-use Rattle.std.proofs.Common.{◌≡◌, ℕ, ◌+◌, ◌<◌, List, [], ◌∷◌, ◌++◌, length, get_or, drop, Some, None, codes, decimal, sym, refl, ap, ◌∙◌, append-nil, arith, length-append, Bor}
+use Rattle.std.proofs.Common.{◌≡◌, ℕ, ◌<◌, List, [], ◌∷◌, ◌++◌, length, drop, Some, None, Option, MatchOption, codes, decimal, sym, refl, ap, ◌∙◌, subst, append-nil, arith, length-append, Bor}
 use Rattle.std.proofs.ByRecursion.{All-push}
-use Rattle.std.proofs.lemmas.List.{length_push}
+use Rattle.std.proofs.lemmas.List.{length_push, get_or_past}
+use Rattle.std.proofs.lemmas.Option.{none-some}
 use Rattle.std.proofs.lemmas.Str.Pattern.{IsSplitOnceResult, split_after, split_parts}
 use Rattle.fabric.specs.declared.modules.Module.{Module}
 use Rattle.report.specs.Requests.{module_word, module_words, ShortModule, IsModule, OptionsTo}
 use Rattle.report.specs.Spelled.{IsNumber}
 use Rattle.report.proofs.CommaWords.{no_comma, comma_in}
-use Rattle.report.proofs.WordPlaces.{inside, two}
+use Rattle.report.specs.Words.{all_of, next_of, Takes}
+use Rattle.report.specs.declared.words.Word.{Word}
+use Rattle.report.specs.declared.words.Words.{Words}
+use Rattle.report.proofs.WordPlaces.{Taken, two}
 
 -- a module is two numbers about a comma
 flat : (m : Module) → module_word m ≡ decimal m.port ++ (44 ∷ decimal m.count)
@@ -26,7 +30,7 @@ module_made bs x m cut first second =
     (split_parts 44 bs (Some x) cut (omega arith)).0 ∙ (λ i. first i ++ (44 ∷ second i)) ∙ sym (flat m)
 
 -- a module's word is not empty
-pub module_some : (m : Module) → 0 < length (module_word m)
+module_some : (m : Module) → 0 < length (module_word m)
 module_some m = omega (arith, ap length (flat m), length-append (decimal m.port) (44 ∷ decimal m.count))
 
 push : (ms : List Module) (m : Module) (rest : List (List ℕ)) → module_words ms ++ (codes "--spur" ∷ module_word m ∷ rest) ≡ module_words (ms ++ m ∷ []) ++ rest
@@ -34,11 +38,28 @@ push [] m rest = refl
 push (k ∷ ms) m rest = ap (λ l. codes "--spur" ∷ module_word k ∷ l) (push ms m rest)
 
 -- one option more is read
-pub option_more : (ws : List (List ℕ)) (ms : List Module) (m : Module) (at : ℕ) → OptionsTo ws ms at → get_or ws at [] ≡ codes "--spur" → ShortModule m → get_or ws (at + 1) [] ≡ module_word m → OptionsTo ws (ms ++ m ∷ []) (at + 2)
-option_more ws ms m at (short, place, before) spur small word = (
+pub option_more : (s mid after : Words) (at : ℕ) (a b : Word) (ms : List Module) (m : Module) → OptionsTo (all_of s) ms at → Taken s mid at a → Taken s after mid.at b → a.text.now ≡ codes "--spur" → ShortModule m → b.text.now ≡ module_word m → OptionsTo (all_of s) (ms ++ m ∷ []) after.at
+option_more s mid after at a b ms m (short, place, before) first second spur small word = (
   All-push ShortModule ms m short small,
-  omega (arith, length_push ms m),
+  omega (arith, length_push ms m, first.next, second.next),
   before
-      ∙ ap (λ l. module_words ms ++ l) (two ws at _ _ (inside ws (at + 1) _ word (module_some m)) spur word)
-      ∙ push ms m (drop (at + 2) ws),
+      ∙ ap (λ l. module_words ms ++ l) (two s mid after at a b first second ∙ (λ i. spur i ∷ word i ∷ drop after.at (all_of s)))
+      ∙ push ms m (drop after.at (all_of s)),
 )
+
+-- the module that the next word spells, if there is one
+abbrev pub Spells : Option Word → Option Module → Type 0
+Spells next found =
+    MatchOption next (found ≡ None) (λ word. MatchOption found (IsModule word.text.now → ⊥) (λ m. ShortModule m × (word.text.now ≡ module_word m)))
+
+module _ (r after : Words) where
+  pub spelled : (next : Option Word) (found : Option Module) (m : Module) → Takes r next after → Spells next found → found ≡ Some m → (word : Word) × Takes r (Some word) after × ShortModule m × (word.text.now ≡ module_word m)
+  spelled None found m takes spells some = absurd (none-some m (sym spells ∙ some))
+  spelled (Some word) found m takes spells some =
+      let told = rw some at spells in (word, takes, told.0, told.1)
+
+  pub not_spelled : (next : Option Word) (found : Option Module) → Takes r next after → Spells next found → found ≡ None → IsModule (next_of r) → ⊥
+  not_spelled None found takes spells none (m, short, e) =
+      omega (arith, ap length (sym (get_or_past (all_of r) r.at [] takes.0) ∙ e), module_some m)
+  not_spelled (Some word) found takes spells none is =
+      let told = rw none at spells in told (subst IsModule (sym takes.2) is)

@@ -1,5 +1,5 @@
 -- Words that are turned away ask for nothing.
-use Rattle.std.proofs.Common.{◌≡◌, ℕ, zero, suc, ◌+◌, ◌-◌, ◌*◌, ◌<◌, ◌≤◌, true, List, [], ◌∷◌, ◌++◌, length, get_or, drop, vec_items, codes, sym, refl, ap, ◌∙◌, subst, inl, inr, ⊎_elim, arith, length-drop}
+use Rattle.std.proofs.Common.{◌≡◌, ℕ, zero, suc, ◌+◌, ◌-◌, ◌*◌, ◌<◌, ◌≤◌, true, List, [], ◌∷◌, ◌++◌, length, get_or, drop, codes, sym, refl, ap, ◌∙◌, subst, inl, inr, ⊎_elim, arith, rules, length-drop}
 use Rattle.std.specs.List.{AllByRecursion}
 use Rattle.std.proofs.lemmas.List.{get_or-drop}
 use Rattle.fabric.specs.declared.modules.Module.{Module}
@@ -28,9 +28,9 @@ module_follows (m ∷ ms) (k ∷ ks) rest more e spur no_more short =
 
 -- names are not options, and tell kinds apart
 name_no_spur : (word : List ℕ) → NamesFabric word → word ≡ codes "--spur" → ⊥
-name_no_spur word (inl e) spur = omega (arith, ap (λ l. get_or l 0 0) (sym e ∙ spur))
-name_no_spur word (inr (inl e)) spur = omega (arith, ap (λ l. get_or l 0 0) (sym e ∙ spur))
-name_no_spur word (inr (inr e)) spur = omega (arith, ap (λ l. get_or l 0 0) (sym e ∙ spur))
+name_no_spur word (inl e) spur = cc
+name_no_spur word (inr (inl e)) spur = cc
+name_no_spur word (inr (inr e)) spur = cc
 
 fabric_named : (d : Description) (rest : List (List ℕ)) → NamesFabric (get_or (fabric_words d ++ rest) 0 [])
 fabric_named (Line n) rest = inl refl
@@ -50,23 +50,19 @@ fabric_long (Listed file) rest = omega arith
 wanted : (d k : Description) (rest more : List (List ℕ)) → fabric_words d ++ rest ≡ fabric_words k ++ more → wants_pairs d ≡ true → wants_pairs k ≡ true
 wanted d (Line n) rest more e wants = refl
 wanted d (Tree parents) rest more e wants = refl
-wanted (Line n) (Listed file) rest more e wants = absurd (omega (arith, ap (λ l. get_or (get_or l 0 []) 2 0) e))
-wanted (Tree parents) (Listed file) rest more e wants = absurd (omega (arith, ap (λ l. get_or (get_or l 0 []) 0 0) e))
+wanted (Line n) (Listed file) rest more e wants = grind arith
+wanted (Tree parents) (Listed file) rest more e wants = grind arith
 wanted (Listed other) (Listed file) rest more e wants = wants
 
 number_of : (k : Description) (rest words : List (List ℕ)) → words ≡ fabric_words k ++ rest → Describes k → get_or words 0 [] ≡ codes "line" → IsNumber (get_or words 1 [])
-number_of (Line n) rest words e describes name = (n, describes, ap (λ l. get_or l 1 []) e)
-number_of (Tree parents) rest words e describes name =
-    absurd (omega (arith, ap (λ l. get_or l 0 0) (sym name ∙ ap (λ l. get_or l 0 []) e)))
-number_of (Listed file) rest words e describes name =
-    absurd (omega (arith, ap (λ l. get_or l 2 0) (sym name ∙ ap (λ l. get_or l 0 []) e)))
+number_of (Line n) rest words e describes name = search rules
+number_of (Tree parents) rest words e describes name = grind arith
+number_of (Listed file) rest words e describes name = grind arith
 
 numbers_of : (k : Description) (rest words : List (List ℕ)) → words ≡ fabric_words k ++ rest → Describes k → get_or words 0 [] ≡ codes "tree" → IsNumbers (get_or words 1 [])
-numbers_of (Line n) rest words e describes name =
-    absurd (omega (arith, ap (λ l. get_or l 0 0) (sym name ∙ ap (λ l. get_or l 0 []) e)))
-numbers_of (Tree parents) rest words e describes name = (vec_items parents, describes, ap (λ l. get_or l 1 []) e)
-numbers_of (Listed file) rest words e describes name =
-    absurd (omega (arith, ap (λ l. get_or l 0 0) (sym name ∙ ap (λ l. get_or l 0 []) e)))
+numbers_of (Line n) rest words e describes name = grind arith
+numbers_of (Tree parents) rest words e describes name = search rules
+numbers_of (Listed file) rest words e describes name = grind arith
 
 pairs_long : (ps : List Pair) → length (pair_words ps) ≡ 2 * length ps
 pairs_long [] = omega arith

@@ -1,18 +1,31 @@
--- Words by their places.
-use Rattle.std.proofs.Common.{◌≡◌, ℕ, ◌+◌, ◌<◌, List, [], ◌∷◌, length, get_or, drop, sym, ap, ◌∙◌, ⊎_elim, arith}
-use Rattle.std.proofs.lemmas.List.{drop_more, get_or_past}
-use Rattle.std.proofs.lemmas.Bool.Decides.{leb_tells}
+-- Words by their places, as a reader gives them.
+use Rattle.std.proofs.Common.{◌≡◌, ℕ, ◌+◌, ◌<◌, [], ◌∷◌, length, get_or, drop, Some, sym, ap, ◌∙◌, subst}
+use Rattle.std.proofs.lemmas.List.{drop_more}
+use Rattle.report.specs.declared.words.Word.{Word}
+use Rattle.report.specs.declared.words.Words.{Words}
+use Rattle.report.specs.Words.{all_of, Takes}
 
-module _ (ws : List (List ℕ)) where
-  -- past the end there is an empty word
-  pub inside : (at : ℕ) (word : List ℕ) → get_or ws at [] ≡ word → 0 < length word → at < length ws
-  inside at word e some =
-      ⊎_elim (λ past. absurd (omega (arith, ap length (sym e ∙ get_or_past ws at [] past.1)))) (λ within. omega (arith, within.1)) (leb_tells (length ws) at)
+-- a reader of the words of s gave a word at a place, and goes on after it
+pub record Taken (s after : Words) (at : ℕ) (word : Word) : Type 0 where
+  pub same : all_of after ≡ all_of s
+  pub next : after.at ≡ at + 1
+  pub inside : at < length (all_of s)
+  pub place : word.place ≡ at
+  pub text : get_or (all_of s) at [] ≡ word.text.now
 
-  pub one : (at : ℕ) (a : List ℕ) → at < length ws → get_or ws at [] ≡ a → drop at ws ≡ a ∷ drop (at + 1) ws
-  one at a within first = drop_more ws at [] within ∙ ap (λ w. w ∷ drop (at + 1) ws) first
+pub taken : (s r after : Words) → all_of r ≡ all_of s → (word : Word) → Takes r (Some word) after → Taken s after r.at word
+taken s r after same word takes = record {
+  same = ap all_of takes.3 ∙ same;
+  next = ap (λ w. w.at) takes.3;
+  inside = subst (λ l. r.at < length l) same takes.0;
+  place = takes.1;
+  text = sym (takes.2 ∙ ap (λ l. get_or l r.at []) same);
+}
 
-  pub two : (at : ℕ) (a b : List ℕ) → at + 1 < length ws → get_or ws at [] ≡ a → get_or ws (at + 1) [] ≡ b → drop at ws ≡ a ∷ b ∷ drop (at + 2) ws
-  two at a b within first second =
-      one at a (omega arith) first
-      ∙ ap (λ l. a ∷ l) (one (at + 1) b within second ∙ ap (λ n. b ∷ drop n ws) (omega arith))
+pub one : (s after : Words) (at : ℕ) (a : Word) → Taken s after at a → drop at (all_of s) ≡ a.text.now ∷ drop after.at (all_of s)
+one s after at a t =
+    drop_more (all_of s) at [] t.inside ∙ (λ i. t.text i ∷ drop (sym t.next i) (all_of s))
+
+pub two : (s mid after : Words) (at : ℕ) (a b : Word) → Taken s mid at a → Taken s after mid.at b → drop at (all_of s) ≡ a.text.now ∷ b.text.now ∷ drop after.at (all_of s)
+two s mid after at a b first second =
+    one s mid at a first ∙ ap (λ l. a.text.now ∷ l) (one s after mid.at b second)

@@ -3,5 +3,6 @@ pub mod Links
 pub mod Lines
 pub mod Requests
 pub mod Texts
+pub mod Words
 pub mod Piles
 pub mod PileLaws

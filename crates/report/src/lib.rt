@@ -6,7 +6,6 @@ pub mod descriptions;
 pub mod lines;
 pub mod links;
 pub mod misuses;
-pub mod numbers;
 pub mod options;
 pub mod piles;
 pub mod requests;

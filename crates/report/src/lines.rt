@@ -1,5 +1,5 @@
 //! The lines of a report.
-ghost use Rattle.std.specs.Prelude.{◌≡◌, IfOk, string_bytes, MatchOption};
+ghost use Rattle.std.specs.Prelude.{IfOk, Some, string_bytes, MatchOption};
 ghost use Rattle.fabric.specs.Overlaps.{Overlap};
 ghost use Rattle.report.specs.Lines.{RouteLine, OverlapLine, list_line};
 
@@ -9,19 +9,18 @@ use fabric::Fabric;
 use fabric::pairs::Pair;
 use fabric::route_checks::ListSummary;
 use std::alloc::{AllocError, Global};
+use std::fmt;
 
 /// The line of a pair: the links of its route, or that there is none.
 pub fn route_line<F: Fabric>(heap: Global, fabric: &F, pair: Pair) -> Result<String, AllocError>
     ensures { IfOk result (λ line. RouteLine (F.Fabric.meaning fabric.now) pair (string_bytes line)) }
 {
-    let source = pair.source;
-    let destination = pair.destination;
     if !fabric.routed(pair) {
-        return format!(in heap; "{source}->{destination} has no route");
+        return format!(in heap; "{}->{} has no route", pair.source, pair.destination);
     }
     let links = shared_links(heap, fabric, pair, pair)?;
     let list = Commas(links.as_slice());
-    format!(in heap; "{source}->{destination} crosses {list}")
+    format!(in heap; "{}->{} crosses {list}", pair.source, pair.destination)
 }
 
 /// The line of two pairs whose routes overlap: the links that both cross. None where they do not.
@@ -37,20 +36,26 @@ pub fn overlap_line<F: Fabric>(
     if links.is_empty() {
         return Ok(None);
     }
-    let from = one.source;
-    let to = one.destination;
-    let source = other.source;
-    let destination = other.destination;
     let list = Commas(links.as_slice());
-    Ok(Some(format!(in heap; "{from}->{to} and {source}->{destination} share {list}")?))
+    let line = format!(in heap;
+        "{}->{} and {}->{} share {list}",
+        one.source, one.destination, other.source, other.destination
+    )?;
+    Ok(Some(line))
 }
 
 /// The line of an accepted route list: how many terminals, links and routes it has.
-pub fn list_line(heap: Global, list: ListSummary) -> Result<String, AllocError>
-    ensures { IfOk result (λ line. string_bytes line ≡ list_line list) }
-{
-    let terminals = list.terminals;
-    let links = list.links;
-    let routes = list.routes;
-    format!(in heap; "ok {terminals} {links} {routes}")
+#[derive(Clone, Copy, PartialEq, Eq, Debug)]
+pub struct ListLine(pub ListSummary);
+
+impl fmt::Display for ListLine {
+    ghost output = { λ line. Some (list_line line.0) };
+
+    fn fmt<W: fmt::Write>(&self, f: &mut fmt::Formatter<W>) -> fmt::Result {
+        write!(
+            f,
+            "ok {} {} {}",
+            self.0.terminals, self.0.links, self.0.routes
+        )
+    }
 }

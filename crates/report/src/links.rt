@@ -17,11 +17,7 @@ pub fn shared_links<F: Fabric>(
 ) -> Result<Vec<u16>, AllocError>
     ensures { IfOk result (λ links. Ascending (Shared (F.Fabric.meaning fabric.now) one other) links.items) }
 {
-    let mut links = Vec::new(heap);
-    for link in 0..fabric.links() {
-        if shared(fabric, one, other, link) {
-            links.push(link)?;
-        }
-    }
-    Ok(links)
+    (0..fabric.links())
+        .filter(|link| shared(fabric, one, other, *link))
+        .collect(heap)
 }

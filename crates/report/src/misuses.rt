@@ -23,6 +23,7 @@ pub enum Misuse {
     NoMemory,
 }
 
+// Both by hand, since the contracts of the readers name the misuse that a `?` makes.
 impl<T: Drop> From<AllocFailed<T>> for Misuse {
     ghost from_gives = { λ _ r. r ≡ NoMemory };
 

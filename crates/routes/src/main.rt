@@ -4,109 +4,92 @@
 use fabric::Fabric;
 use fabric::faults::FabricFault;
 use fabric::lines::Line;
-use fabric::modules::Module;
 use fabric::pairs::Pair;
 use fabric::route_checks::check;
 use fabric::route_lists::RouteList;
 use fabric::trees::Tree;
 use report::descriptions::Description;
-use report::lines::{list_line, overlap_line, route_line};
+use report::lines::{ListLine, overlap_line, route_line};
 use report::piles::Pile;
 use report::requests::{Request, read_request};
-use report::texts::{misuse_text, refusal_text, usage};
+use report::texts::{MisuseText, RefusalText, usage};
+use std::fmt::Display;
 use std::process::ExitCode;
 use std::{env, fs};
 
+// A line for each of the others that overlaps the one.
+fn report_overlaps<F: Fabric>(
+    rt: &HostRuntime,
+    fabric: &F,
+    one: Pair,
+    others: &[Pair],
+) -> anyhow::Result<()> {
+    for other in others {
+        if let Some(line) = overlap_line(rt.alloc(), fabric, one, *other)? {
+            rt.println(line)?;
+        }
+    }
+    Ok(())
+}
+
 // A line for each pair, then one for each two pairs that overlap.
 fn report_on<F: Fabric>(rt: &HostRuntime, fabric: &F, pairs: &[Pair]) -> anyhow::Result<ExitCode> {
-    let heap = rt.alloc();
     for pair in pairs {
-        rt.println(route_line(heap, fabric, *pair)?)?;
+        rt.println(route_line(rt.alloc(), fabric, *pair)?)?;
     }
-    for (i, one) in pairs.iter().enumerate() {
-        for other in pairs.iter().skip(i).skip(1) {
-            if let Some(line) = overlap_line(heap, fabric, *one, *other)? {
-                rt.println(line)?;
-            }
-        }
+    let mut rest = pairs;
+    while let [one, others @ ..] = rest {
+        report_overlaps(rt, fabric, *one, others)?;
+        rest = others;
     }
     Ok(ExitCode::SUCCESS)
 }
 
 // Why the arguments were turned away, and how the program is called. The run then ends with status 1.
-fn turn_away(rt: &HostRuntime, why: String) -> anyhow::Result<ExitCode> {
+fn turn_away(rt: &HostRuntime, why: &impl Display) -> anyhow::Result<ExitCode> {
     eprintln!(rt; "routes: {why}")?;
     rt.eprintln(usage())?;
     Ok(ExitCode::FAILURE)
 }
 
-fn refuse(rt: &HostRuntime, fault: FabricFault) -> anyhow::Result<ExitCode> {
-    turn_away(rt, refusal_text(rt.alloc(), fault)?)
-}
-
 // Puts the modules on the fabric, the lowest first, and reports on the pile.
 fn report_with<F: Fabric + Drop>(
     rt: &HostRuntime,
-    fabric: F,
-    modules: &[Module],
-    pairs: &[Pair],
+    fabric: Result<F, FabricFault>,
+    request: &Request,
 ) -> anyhow::Result<ExitCode> {
-    let mut pile = Pile::Base(fabric);
-    for module in modules {
+    let mut pile = match fabric {
+        Ok(fabric) => Pile::Base(fabric),
+        Err(fault) => return turn_away(rt, &RefusalText(fault)),
+    };
+    for module in &request.modules {
         if let Err(fault) = module.fits(pile.size()) {
-            return refuse(rt, fault);
+            return turn_away(rt, &RefusalText(fault));
         }
         pile = Pile::Joined(Box::new(rt.alloc(), pile)?, *module);
     }
-    report_on(rt, &pile, pairs)
+    report_on(rt, &pile, request.pairs.as_slice())
 }
 
-fn report_on_line(rt: &HostRuntime, terminals: u16, request: &Request) -> anyhow::Result<ExitCode> {
-    match Line::new(terminals) {
-        Ok(line) => report_with(
-            rt,
-            line,
-            request.modules.as_slice(),
-            request.pairs.as_slice(),
-        ),
-        Err(fault) => refuse(rt, fault),
-    }
-}
-
-fn report_on_tree(
-    rt: &HostRuntime,
-    parents: &[u16],
-    request: &Request,
-) -> anyhow::Result<ExitCode> {
+// The tree of these parents.
+fn grown(parents: &[u16]) -> Result<Tree, FabricFault> {
     let mut tree = Tree::new();
-    match tree.fill(parents) {
-        Ok(()) => report_with(
-            rt,
-            tree,
-            request.modules.as_slice(),
-            request.pairs.as_slice(),
-        ),
-        Err(fault) => refuse(rt, fault),
-    }
+    tree.fill(parents)?;
+    Ok(tree)
 }
 
 // Tells what a route list has, or where it is refused, and goes on to the pairs.
 fn report_on_list(rt: &HostRuntime, bytes: &[u8], request: &Request) -> anyhow::Result<ExitCode> {
-    let heap = rt.alloc();
     match check(bytes) {
-        Ok(list) => rt.println(list_line(heap, list)?)?,
+        Ok(list) => {
+            rt.println(ListLine(list))?;
+            report_with(rt, Ok(RouteList::new(bytes)), request)
+        }
         Err(fault) => {
-            rt.println(refusal_text(heap, fault)?)?;
-            return Ok(ExitCode::FAILURE);
+            rt.println(RefusalText(fault))?;
+            Ok(ExitCode::FAILURE)
         }
     }
-    let list = RouteList::new(bytes);
-    report_with(
-        rt,
-        list,
-        request.modules.as_slice(),
-        request.pairs.as_slice(),
-    )
 }
 
 fn report_on_file(rt: &HostRuntime, file: &str, request: &Request) -> anyhow::Result<ExitCode> {
@@ -119,15 +102,24 @@ fn report_on_file(rt: &HostRuntime, file: &str, request: &Request) -> anyhow::Re
     }
 }
 
+fn report_on_request(rt: &HostRuntime, request: &Request) -> anyhow::Result<ExitCode> {
+    match &request.description {
+        Description::Line(terminals) => report_with(rt, Line::new(*terminals), request),
+        Description::Tree(parents) => report_with(rt, grown(parents.as_slice()), request),
+        Description::List(file) => report_on_file(rt, file.as_str(), request),
+    }
+}
+
 fn main(rt: HostRuntime) -> anyhow::Result<ExitCode> {
-    let heap = rt.alloc();
-    let words: Vec<String> = env::args(&rt)?.skip(1).collect(heap)?;
-    match read_request(heap, words.as_slice()) {
-        Ok(request) => match &request.description {
-            Description::Line(terminals) => report_on_line(&rt, *terminals, &request),
-            Description::Tree(parents) => report_on_tree(&rt, parents.as_slice(), &request),
-            Description::List(file) => report_on_file(&rt, file.as_str(), &request),
-        },
-        Err(misuse) => turn_away(&rt, misuse_text(heap, words.as_slice(), misuse)?),
+    let words: Vec<String> = env::args(&rt)?.skip(1).collect(rt.alloc())?;
+    match read_request(rt.alloc(), words.as_slice()) {
+        Ok(request) => report_on_request(&rt, &request),
+        Err(misuse) => turn_away(
+            &rt,
+            &MisuseText {
+                words: words.as_slice(),
+                misuse,
+            },
+        ),
     }
 }

@@ -1,18 +1,12 @@
-use denote.Text.{Utf8}
-use denote.Shadow.{shadow}
-use Rattle.std.proofs.Common.{◌≡◌, ◌++◌, length, vec_items}
+use Rattle.std.proofs.Common.{◌≡◌, map, vec_items, decimal}
 use Rattle.std.specs.List.{AllByRecursion}
-use Rattle.report.specs.Spelled.{Short, IsNumbers}
-use Rattle.report.proofs.CommaWords.{ended}
+use Rattle.report.specs.Spelled.{Short}
 use Rattle.report.proofs.commas.read_commas.Given as goal
 
--- the word is the numbers so far, each with a comma after it, and then the rest; it spells numbers only if the rest does
-abbrev pub invariant-loop-first : goal.invariant-loop-first
-invariant-loop-first l =
-    shadow (Utf8 l.rest)
+-- the parts so far spell the numbers so far
+abbrev pub invariant-loop-part : goal.invariant-loop-part
+invariant-loop-part l =
+    (goal.iterator-loop-part).can_next l.part-iterator
+    × (goal.iterator-loop-part).is_finite l.part-iterator
     × AllByRecursion Short (vec_items l.numbers)
-    × (l.word ≡ ended (vec_items l.numbers) ++ l.rest)
-    × (IsNumbers l.word → IsNumbers l.rest)
-
-abbrev pub decreases-loop-first : goal.decreases-loop-first
-decreases-loop-first l = length l.rest
+    × (map (λ x. x.now) l.yielded ≡ map decimal (vec_items l.numbers))

@@ -1,13 +1,9 @@
-use Rattle.std.proofs.Common.{◌++◌, codes, sym, ap, ◌∙◌, inl, inr}
+use Rattle.std.proofs.Common.{◌++◌, codes, sym, ap, ◌∙◌, inr}
 use Rattle.std.proofs.lemmas.Result.{IfOk-weaker}
 use Rattle.report.specs.Lines.{pair_then}
 use Rattle.report.specs.Spelled.{commas}
 use Rattle.report.proofs.AscendingLists.{alike}
 use Rattle.report.proofs.lines.route_line.Goals as goal
-
-pub returns-then-not-routed : goal.returns-then-not-routed
-returns-then-not-routed g c =
-    IfOk-weaker _ _ _ (λ line e. inl (sym c.if-not-routed.ensures, e)) c.format.ensures.ok
 
 pub returns : goal.returns
 returns g c =

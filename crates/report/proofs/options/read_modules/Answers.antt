@@ -1,23 +1,25 @@
-use Rattle.std.proofs.Common.{◌≡◌, ◌+◌, [], map, get_or, string_bytes, codes, sym, ◌∙◌, arith}
-use Rattle.std.proofs.lemmas.List.{length-map}
-use Rattle.std.proofs.lemmas.Slice.Eq.{bytes_eq-Decides}
-use Rattle.report.specs.Requests.{module_word}
-use Rattle.report.proofs.OptionWords.{module_some, option_more}
-use Rattle.report.proofs.WordPlaces.{inside}
+use Rattle.std.proofs.Common.{◌≡◌, ◌+◌, [], get_or, vec_items, refl, ◌∙◌, subst, rules}
+use Rattle.report.specs.Requests.{IsModule}
+use Rattle.report.specs.declared.misuses.Misuse.TheVariants.{NotAModule}
+use Rattle.report.proofs.Refusals.{handed_on}
+use Rattle.report.proofs.OptionWords.{option_more, Spells, spelled, not_spelled}
+use Rattle.report.proofs.WordPlaces.{taken}
 use Rattle.report.proofs.options.read_modules.Goals as goal
 
-spur : (c : goal.In_ok-push) → get_or (map string_bytes c.args.words.now) c.loop-module.at [] ≡ codes "--spur"
-spur c =
-    sym c.word_at.ensures ∙ (bytes_eq-Decides c.word_at.result.now (codes "--spur")).0 (sym c.eq.ensures ∙ c.loop-module-test.true)
+pub returns-in_err-module-clause-read : goal.returns-in_err-module-clause-read
+returns-in_err-module-clause-read c =
+    let first = taken c.args.words.now c.loop-spur.words c.next_if.new.self c.loop-spur.invariant.0 c.in-Some.spur c.in-Some.ensures.0 in
+    let spells : Spells c.next.result c.and_then.result = search rules in
+    let none = not_spelled c.next_if.new.self c.next.new.self c.next.result c.and_then.result c.next.ensures.steps spells c.in_err-module.ensures.ok_part in
+    let fault = rw c.in_err-module.ensures.ok_part at c.in_err-module.ensures.value in
+    let is : c.in_err-module.field-0.0 ≡ NotAModule (c.in-Some.spur.place + 1) = cc in
+    handed_on _ _ _ _ c.from_residual.ensures.1
+    (rw (is, first.place) (vec_items c.loop-spur.modules, c.loop-spur.words.at, c.loop-spur.invariant.1, first.text ∙ (c.in-Some.ensures.0.2 ∙ c.in-Some.ensures.1), refl, subst (λ w. IsModule w → ⊥) (λ i. get_or (first.same i) (first.next i) []) none))
 
-word : (c : goal.In_ok-push) → get_or (map string_bytes c.args.words.now) (c.loop-module.at + 1) [] ≡ module_word c.in-Some.«module»
-word c = sym c.word_at-in-loop-module.ensures ∙ c.in-Some.ensures.1
-
-pub loop-module-smaller : goal.loop-module-smaller
-loop-module-smaller c =
-    let within = inside (map string_bytes c.args.words.now) _ _ (word c) (module_some c.in-Some.«module») in
-    omega (arith, length-map c.args.words.now string_bytes)
-
-pub loop-module-preserved : goal.loop-module-preserved
-loop-module-preserved c =
-    rw c.in_ok-push.ensures.items (option_more _ _ _ _ c.loop-module.invariant (spur c) c.in-Some.ensures.0 (word c))
+pub loop-spur-preserved : goal.loop-spur-preserved
+loop-spur-preserved c =
+    let first = taken c.args.words.now c.loop-spur.words c.next_if.new.self c.loop-spur.invariant.0 c.in-Some.spur c.in-Some.ensures.0 in
+    let spells : Spells c.next.result c.and_then.result = search rules in
+    let word = spelled c.next_if.new.self c.next.new.self c.next.result c.and_then.result c.in_ok-module.module c.next.ensures.steps spells c.in_ok-module.ensures.ok_part in
+    let second = taken c.args.words.now c.next_if.new.self c.next.new.self first.same word.0 word.1 in
+    (second.same, rw c.in_ok-push.ensures.items (option_more c.args.words.now c.next_if.new.self c.next.new.self c.loop-spur.words.at c.in-Some.spur word.0 (vec_items c.loop-spur.modules) c.in_ok-module.module c.loop-spur.invariant.1 first second (c.in-Some.ensures.0.2 ∙ c.in-Some.ensures.1) word.2 word.3))

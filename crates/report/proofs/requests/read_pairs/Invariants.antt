@@ -1,9 +1,9 @@
-use Rattle.std.proofs.Common.{◌-◌, map, length, vec_items, string_bytes}
+use Rattle.std.proofs.Common.{◌≡◌, vec_items}
+use Rattle.report.specs.Words.{all_of}
 use Rattle.report.proofs.PairWords.{Read}
 use Rattle.report.proofs.requests.read_pairs.Given as goal
 
-abbrev pub invariant-loop-at : goal.invariant-loop-at
-invariant-loop-at l = Read (map string_bytes l.words) l.from (vec_items l.pairs) l.at
-
-abbrev pub decreases-loop-at : goal.decreases-loop-at
-decreases-loop-at l = length l.words - l.at
+abbrev pub invariant-loop-word : goal.invariant-loop-word
+invariant-loop-word l =
+    (all_of l.words ≡ all_of l.fn.words)
+    × Read (all_of l.fn.words) l.fn.words.at (vec_items l.pairs) l.words.at

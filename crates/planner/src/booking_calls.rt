@@ -7,6 +7,7 @@ ghost use Rattle.planner.specs.declared.calls.Call.TheVariants.{Enrol, Admit, Wi
 
 use crate::booked::met_by;
 use crate::bookings::Booking;
+use crate::flow_numbers::FlowNumber;
 use crate::flows::Flow;
 use crate::link_sets::LinkSet;
 use crate::plan_faults::PlanFault;
@@ -36,9 +37,12 @@ impl<F: Fabric> Plan<F, Running> {
         self.may_book(number, flow)?;
         let links = LinkSet::of_route(&self.fabric, flow.ends);
         let beside = met_by(&self.bookings, &links);
+        let asking = FlowNumber {
+            number: number as u8,
+        };
         if !self
             .table
-            .give(number as u8, beside, flow.demand, self.period.slots)
+            .give(asking, beside, flow.demand, self.period.slots)
         {
             return Err(PlanFault::TooFewSlots);
         }
@@ -90,7 +94,10 @@ impl<F: Fabric, S> Plan<F, S> {
         if !self.is_booked(number) {
             return Err(PlanFault::NotBooked);
         }
-        self.table.clear(number as u8);
+        let leaving = FlowNumber {
+            number: number as u8,
+        };
+        self.table.clear(leaving);
         self.bookings[number as usize] = None;
         Ok(())
     }

@@ -7,6 +7,7 @@ mod booked;
 mod booking_calls;
 mod bookings;
 pub mod calls;
+pub mod flow_numbers;
 pub mod flow_orders;
 pub mod flow_sets;
 pub mod flows;

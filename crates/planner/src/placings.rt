@@ -1,8 +1,9 @@
 //! Placing flows along an order.
+ghost use Rattle.planner.specs.FlowOrders.{numbers};
 ghost use Rattle.planner.specs.Loads.{load_of};
-ghost use Rattle.planner.specs.Orders.{Below, has};
 ghost use Rattle.planner.specs.Placings.{Once, Outcome, Verdict};
 
+use crate::flow_numbers::FlowNumber;
 use crate::flow_sets::FlowSet;
 use crate::overlaps::Overlaps;
 use crate::slots::SlotTable;
@@ -13,23 +14,21 @@ use crate::slots::SlotTable;
 /// Along an order the table is a placing; and where it stops, the group's flows all overlap one another, together they demand more than
 /// the period, and no placing exists.
 pub(crate) fn place_along(
-    order: &[u8],
+    order: &[FlowNumber],
     overlaps: &Overlaps,
     demands: &[u16; 64],
     period: u8,
 ) -> Result<SlotTable, FlowSet>
-    requires below { Below 64 (has order.now) }
-    requires once { Once order.now }
-    ensures outcome { Outcome (load_of overlaps.now demands.now period) order.now result }
-    ensures verdict { Verdict (load_of overlaps.now demands.now period) order.now result }
+    requires { Once (numbers order.now) }
+    ensures outcome { Outcome (load_of overlaps.now demands.now period) (numbers order.now) result }
+    ensures verdict { Verdict (load_of overlaps.now demands.now period) (numbers order.now) result }
 {
     let mut table = SlotTable::empty();
     let mut placed = FlowSet::empty();
-    for at in (0..order.len()).rev() {
-        let flow = order[at];
+    for flow in order.iter().rev().copied() {
         let overlapping = overlaps.group(flow);
         let rivals = placed.intersection(overlapping);
-        if !table.give(flow, rivals, demands[flow as usize], period) {
+        if !table.give(flow, rivals, demands[usize::from(flow)], period) {
             let mut group = rivals;
             group.insert(flow);
             return Err(group);
@@ -62,7 +61,19 @@ mod tests {
 
     const DEMANDS: [u16; 12] = [0, 2, 2, 3, 1, 6, 7, 7, 1, 4, 4, 4];
 
-    const ORDER: [u8; 11] = [11, 10, 9, 8, 7, 6, 5, 4, 3, 2, 1];
+    const ORDER: [FlowNumber; 11] = [
+        FlowNumber { number: 11 },
+        FlowNumber { number: 10 },
+        FlowNumber { number: 9 },
+        FlowNumber { number: 8 },
+        FlowNumber { number: 7 },
+        FlowNumber { number: 6 },
+        FlowNumber { number: 5 },
+        FlowNumber { number: 4 },
+        FlowNumber { number: 3 },
+        FlowNumber { number: 2 },
+        FlowNumber { number: 1 },
+    ];
 
     // Bit s of an entry: the flow holds slot s.
     const HELD: [u8; 12] = [
@@ -85,7 +96,7 @@ mod tests {
         for one in 1..12u8 {
             for other in 1..one {
                 if CROSSES[one as usize] & CROSSES[other as usize] != 0 {
-                    overlaps.join(one, other);
+                    overlaps.join(FlowNumber { number: one }, FlowNumber { number: other });
                 }
             }
         }

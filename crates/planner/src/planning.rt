@@ -21,12 +21,7 @@ pub fn place_all(
     ensures { Planned (load_of overlaps.now demands.now period) (members flows) result }
 {
     match chosen_order(flows, overlaps) {
-        Ok(order) => match place_along(
-            &order.numbers[0..order.count as usize],
-            overlaps,
-            demands,
-            period,
-        ) {
+        Ok(order) => match place_along(order.as_slice(), overlaps, demands, period) {
             Ok(table) => Ok(table),
             Err(group) => Err(Unplaced::NoPlacing(group)),
         },

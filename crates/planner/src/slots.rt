@@ -4,6 +4,7 @@ ghost use Rattle.planner.specs.FlowSets.{members};
 ghost use Rattle.planner.specs.Slots.{count, free, Given};
 ghost use Rattle.planner.specs.Tables.{holds};
 
+use crate::flow_numbers::FlowNumber;
 use crate::flow_sets::{FlowSet, remove_from_all};
 
 /// For each slot the flows that hold it, so that one AND tells whether a slot is valid.
@@ -34,9 +35,8 @@ impl SlotTable {
     }
 
     /// The flow gives up all its slots.
-    pub(crate) fn clear(&mut self, flow: u8)
-        requires { flow < 64 }
-        ensures { (f s : ℕ) → holds self.new f s ≡ (if nat_eq f flow then false else holds self.old f s) }
+    pub(crate) fn clear(&mut self, flow: FlowNumber)
+        ensures { (f s : ℕ) → holds self.new f s ≡ (if nat_eq f flow.number then false else holds self.old f s) }
     {
         remove_from_all(&mut self.slots, flow);
     }
@@ -63,11 +63,16 @@ impl SlotTable {
     }
 
     /// Gives the flow its earliest valid slots, `demand` of them. Where there are too few it answers false, and nothing changes.
-    pub(crate) fn give(&mut self, flow: u8, beside: FlowSet, demand: u16, period: u8) -> bool
-        requires flow_bound { flow < 64 }
-        requires holds_nothing { (s : ℕ) → holds self.old flow s ≡ false }
-        requires not_beside { members beside flow ≡ false }
-        ensures given { result ≡ true → Given (holds self.old) (holds self.new) 64 flow (members beside) demand period }
+    pub(crate) fn give(
+        &mut self,
+        flow: FlowNumber,
+        beside: FlowSet,
+        demand: u16,
+        period: u8,
+    ) -> bool
+        requires holds_nothing { (s : ℕ) → holds self.old flow.number s ≡ false }
+        requires not_beside { members beside flow.number ≡ false }
+        ensures given { result ≡ true → Given (holds self.old) (holds self.new) 64 flow.number (members beside) demand period }
         ensures refused { result ≡ false → (self.new ≡ self.old) × (count (free (holds self.old) 64 (members beside)) period < demand) }
     {
         if self.valid_count(beside, period) < demand {
@@ -78,12 +83,11 @@ impl SlotTable {
     }
 
     /// The giving pass, which stops once the demand is met.
-    fn take_earliest(&mut self, flow: u8, beside: FlowSet, demand: u16, period: u8)
-        requires flow_bound { flow < 64 }
-        requires holds_nothing { (s : ℕ) → holds self.old flow s ≡ false }
-        requires not_beside { members beside flow ≡ false }
+    fn take_earliest(&mut self, flow: FlowNumber, beside: FlowSet, demand: u16, period: u8)
+        requires holds_nothing { (s : ℕ) → holds self.old flow.number s ≡ false }
+        requires not_beside { members beside flow.number ≡ false }
         requires enough { demand ≤ count (free (holds self.old) 64 (members beside)) period }
-        ensures { Given (holds self.old) (holds self.new) 64 flow (members beside) demand period }
+        ensures { Given (holds self.old) (holds self.new) 64 flow.number (members beside) demand period }
     {
         let mut left = demand;
         for slot in 0..period {
@@ -98,10 +102,9 @@ impl SlotTable {
     }
 
     /// The flow takes the slot.
-    fn mark(&mut self, flow: u8, slot: u8)
-        requires flow_bound { flow < 64 }
-        requires slot_bound { slot < 255 }
-        ensures { (f s : ℕ) → holds self.new f s ≡ (if nat_eq f flow && s == slot then true else holds self.old f s) }
+    fn mark(&mut self, flow: FlowNumber, slot: u8)
+        requires { slot < 255 }
+        ensures { (f s : ℕ) → holds self.new f s ≡ (if nat_eq f flow.number && s == slot then true else holds self.old f s) }
     {
         self.slots[slot as usize].insert(flow);
     }

@@ -1,4 +1,5 @@
-use Rattle.std.proofs.Common.{◌≡◌, ℕ, drop}
+use Rattle.std.proofs.Common.{◌≡◌, ℕ, reverse}
+use Rattle.planner.specs.FlowOrders.{numbers}
 use Rattle.planner.specs.FlowSets.{members}
 use Rattle.planner.specs.Loads.{load_of}
 use Rattle.planner.specs.Orders.{has}
@@ -6,6 +7,6 @@ use Rattle.planner.specs.Placings.{PlacedAlong}
 use Rattle.planner.specs.Tables.{holds}
 use Rattle.planner.proofs.placings.place_along.Given as goal
 
--- the flows from `at` on are placed
-abbrev pub invariant-loop-at : goal.invariant-loop-at
-invariant-loop-at l = PlacedAlong (load_of l.overlaps l.demands l.period) (drop l.at l.order) (holds l.table) × ((g : ℕ) → members l.placed g ≡ has (drop l.at l.order) g)
+-- the flows so far, from the end, are placed
+abbrev pub invariant-loop-flow : goal.invariant-loop-flow
+invariant-loop-flow l = PlacedAlong (load_of l.overlaps l.demands l.period) (numbers (reverse l.yielded)) (holds l.table) × ((g : ℕ) → members l.placed g ≡ has (numbers (reverse l.yielded)) g)

@@ -21,7 +21,6 @@ give-requires g c =
     let may = may_book (g.F.Fabric.meaning p.fabric) p.period.slots (shows g.F.Fabric.meaning false p).booked n c.args.flow c.in_ok-may_book.ensures in
     let none = no_booking (booking_at p.bookings n) may.free in
     record {
-      flow_bound = omega (arith, may.number);
       holds_nothing = unheld p.bookings (holds p.table) n p.owned none;
       not_beside = c.met_by-beside.ensures n ∙ none_shares (crossing c.of_route-links.result) (booking_at p.bookings n) none;
     }

@@ -12,6 +12,7 @@ use crate::flows::Flow;
 use crate::link_sets::LinkSet;
 use crate::plan_faults::PlanFault;
 use crate::plans::Plan;
+use crate::slot_requests::SlotRequest;
 use crate::states::{Resting, Running};
 use fabric::Fabric;
 
@@ -37,15 +38,17 @@ impl<F: Fabric> Plan<F, Running> {
         self.may_book(number, flow)?;
         let links = LinkSet::of_route(&self.fabric, flow.ends);
         let beside = met_by(&self.bookings, &links);
-        let asking = FlowNumber {
-            number: number as u8,
+        let request = SlotRequest {
+            flow: FlowNumber {
+                number: number as u8,
+            },
+            beside,
+            demand: flow.demand,
+            period: self.period.slots,
         };
-        if !self
-            .table
-            .give(asking, beside, flow.demand, self.period.slots)
-        {
-            return Err(PlanFault::TooFewSlots);
-        }
+        self.table
+            .give(request)
+            .map_err(|_| PlanFault::TooFewSlots)?;
         self.bookings[number as usize] = Some(Booking { flow, links });
         Ok(())
     }

@@ -56,6 +56,14 @@ impl FlowSet {
         Some(highest)
     }
 
+    /// The set, and the flow.
+    pub(crate) fn with(mut self, flow: FlowNumber) -> FlowSet
+        ensures { (k : ℕ) → members result k ≡ (if nat_eq k flow.number then true else members self k) }
+    {
+        self.insert(flow);
+        self
+    }
+
     pub(crate) fn intersects(self, other: FlowSet) -> bool
         ensures some { T result → ((k : ℕ) × (k < 64) × T (members self k) × T (members other k)) }
         ensures all { (k : ℕ) → T (members self k) → T (members other k) → T result }

@@ -5,42 +5,43 @@ ghost use Rattle.planner.specs.Placings.{Once, Outcome, Verdict};
 
 use crate::flow_numbers::FlowNumber;
 use crate::flow_sets::FlowSet;
-use crate::overlaps::Overlaps;
+use crate::loads::FlowLoad;
+use crate::slot_requests::SlotRequest;
 use crate::slots::SlotTable;
 
-/// Places the flows of a list, from its end to its front, each in the earliest slots that no flow before it that overlaps it holds.
-/// Where a flow finds too few it stops, with the group of that flow and the flows before it that overlap it.
-///
-/// Along an order the table is a placing; and where it stops, the group's flows all overlap one another, together they demand more than
-/// the period, and no placing exists.
-pub(crate) fn place_along(
-    order: &[FlowNumber],
-    overlaps: &Overlaps,
-    demands: &[u16; 64],
-    period: u8,
-) -> Result<SlotTable, FlowSet>
-    requires { Once (numbers order.now) }
-    ensures outcome { Outcome (load_of overlaps.now demands.now period) (numbers order.now) result }
-    ensures verdict { Verdict (load_of overlaps.now demands.now period) (numbers order.now) result }
-{
-    let mut table = SlotTable::empty();
-    let mut placed = FlowSet::empty();
-    for flow in order.iter().rev().copied() {
-        let overlapping = overlaps.group(flow);
-        let rivals = placed.intersection(overlapping);
-        if !table.give(flow, rivals, demands[usize::from(flow)], period) {
-            let mut group = rivals;
-            group.insert(flow);
-            return Err(group);
+impl FlowLoad {
+    /// Places the flows of a list, from its end to its front, each in the earliest slots that no flow before it that overlaps it
+    /// holds. Where a flow finds too few it stops, with the group of that flow and the flows before it that overlap it.
+    ///
+    /// Along an order the table is a placing; and where it stops, the group's flows all overlap one another, together they demand
+    /// more than the period, and no placing exists.
+    pub(crate) fn place_along(&self, order: &[FlowNumber]) -> Result<SlotTable, FlowSet>
+        requires { Once (numbers order.now) }
+        ensures outcome { Outcome (load_of self.now.overlaps self.now.demands self.now.period) (numbers order.now) result }
+        ensures verdict { Verdict (load_of self.now.overlaps self.now.demands self.now.period) (numbers order.now) result }
+    {
+        let mut table = SlotTable::empty();
+        let mut placed = FlowSet::empty();
+        for flow in order.iter().rev().copied() {
+            let rivals = placed.intersection(self.overlaps.group(flow));
+            table
+                .give(SlotRequest {
+                    flow,
+                    beside: rivals,
+                    demand: self.demands[usize::from(flow)],
+                    period: self.period,
+                })
+                .map_err(|_| rivals.with(flow))?;
+            placed.insert(flow);
         }
-        placed.insert(flow);
+        Ok(table)
     }
-    Ok(table)
 }
 
 #[cfg(test)]
 mod tests {
     use super::*;
+    use crate::overlaps::Overlaps;
     use std::test::Fail;
 
     // Eleven flows, numbered from 1. Bit k of an entry: the flow crosses link k, and two flows overlap if they share a link.
@@ -105,13 +106,18 @@ mod tests {
 
     // The placing of the eleven flows in a period of eight slots, with a demand of its own for flow 2.
     fn placed(second: u16) -> Result<SlotTable, FlowSet> {
-        let overlaps = eleven_overlaps();
         let mut demands = [0u16; 64];
         for flow in 0..12usize {
             demands[flow] = DEMANDS[flow];
         }
         demands[2] = second;
-        place_along(&ORDER, &overlaps, &demands, 8)
+        let load = FlowLoad {
+            flows: FlowSet::empty(),
+            overlaps: eleven_overlaps(),
+            demands,
+            period: 8,
+        };
+        load.place_along(&ORDER)
     }
 
     #[test]

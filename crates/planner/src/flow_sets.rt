@@ -38,8 +38,8 @@ impl FlowSet {
     pub(crate) fn remove(&mut self, flow: FlowNumber)
         ensures { (k : ℕ) → members self.new k ≡ (if nat_eq k flow.number then false else members self.old k) }
     {
-        let s = self.0;
-        self.0 = s & !(1u64 << flow.number);
+        let flows = self.0;
+        self.0 = flows & !(1u64 << flow.number);
     }
 
     /// Takes the highest flow out of the set; None from the empty set, which stays empty.

@@ -1,15 +1,15 @@
 -- Links in words of 64 bits.
-use Rattle.std.proofs.Common.{◌≡◌, ℕ, ◌+◌, ◌*◌, ◌/◌, ◌%◌, ◌^◌, ◌<◌, ◌≤◌, Bool, true, false, cond, not, Decides, T, eqb, List, length, get_or, set, sym, refl, ap, ◌∙◌, subst, ⊎_elim, arith, get_or-set_other, get_or-set_same, eq-eqb}
-use lib.Bits.{bit_and, bit_or}
+use Rattle.std.proofs.Common.{◌≡◌, ℕ, ◌+◌, ◌*◌, ◌/◌, ◌%◌, ◌^◌, ◌<◌, ◌≤◌, true, false, cond, eqb, List, length, get_or, set, sym, ap, ◌∙◌, subst, ⊎_elim, arith, get_or-set_other, get_or-set_same}
+use lib.Bits.{bit_or}
 use Rattle.std.proofs.lemmas.List.{get_or_past}
 use Rattle.std.proofs.lemmas.Bool.Decides.{eqb_tells, nat_tests}
-use Rattle.std.proofs.lemmas.Bool.{cases_lt}
+use Rattle.std.proofs.lemmas.Bool.{cases_lt, both_ways}
 use Rattle.std.proofs.lemmas.Slice.Zip.{get_or-zip, length-zip}
 use Rattle.std.specs.List.{zip, AllWithin, HoldsAt}
 use Rattle.planner.specs.declared.link_sets.LinkSet.{LinkSet}
 use Rattle.planner.specs.FlowSets.{bit}
 use Rattle.planner.specs.LinkSets.{crossing}
-use Rattle.planner.proofs.Bits.{bit_insert, meet_some, meet_all, zero_none}
+use Rattle.planner.proofs.Bits.{bit_insert, bit_none}
 
 -- one link more
 pub insert_at : (ws : List ℕ) (l k : ℕ) → length ws ≡ 4 → l < 256 →
@@ -28,19 +28,9 @@ insert_at ws l k four small =
     ∙ ap (λ b. cond b true (bit (get_or ws (k / 64) 0) (k % 64))) (sym other))
     (eqb_tells (k / 64) (l / 64))
 
-set_true : (b : Bool) → T b → b ≡ true
-set_true true t = refl
-set_true false t = absurd t
-
 -- two words have a bit in common
 abbrev pub Meet : ℕ × ℕ → Type 0
 Meet p = (n : ℕ) × (n < 64) × (bit p.0 n ≡ true) × (bit p.1 n ≡ true)
-
-pub meet_tells : (x y : ℕ) → x < 2 ^ 64 → Decides (not (eqb (bit_and x y) 0)) (Meet (x, y))
-meet_tells x y fits = (
-  λ e. let m = meet_some 64 x y fits (subst T (sym e) tt) in (m.0, m.1, set_true _ m.2, set_true _ m.3),
-  λ h. set_true _ (meet_all x y h.0 (subst T (sym h.2) tt) (subst T (sym h.3) tt)),
-)
 
 -- words of two sets that meet have a common link
 module _ (xs ys : List ℕ) (same : length xs ≡ length ys) where
@@ -66,7 +56,7 @@ module _ (xs ys : List ℕ) (same : length xs ≡ length ys) where
 
 -- past the words there is no link
 pub past_none : (ws : List ℕ) (w n : ℕ) → length ws ≤ w → bit (get_or ws w 0) n ≡ true → ⊥
-past_none ws w n past b = zero_none (get_or ws w 0) n (subst T (sym (eq-eqb _ 0 (get_or_past ws w 0 past))) tt) (subst T (sym b) tt)
+past_none ws w n past b = both_ways (bit (get_or ws w 0) n) (ap (λ x. bit x n) (get_or_past ws w 0 past) ∙ bit_none n) b
 
 -- a set has links below 256 alone
 pub crossing_below : (set : LinkSet) (k : ℕ) → length set.words ≡ 4 → crossing set k ≡ true → k < 256

@@ -1,5 +1,5 @@
 use Rattle.std.proofs.Common.{◌^◌, ◌<◌, rules}
-use Rattle.planner.proofs.LinkBits.{meet_tells}
+use Rattle.planner.proofs.Bits.{meet_tells}
 use Rattle.planner.proofs.link_sets.meet.Goals as goal
 
 pub returns : goal.returns

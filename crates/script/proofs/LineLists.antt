@@ -1,10 +1,11 @@
 -- Lines of a script: it is lines in one way, and a walk along its bytes 10 finds them.
-use Rattle.std.proofs.Common.{◌≡◌, ℕ, ◌+◌, ◌-◌, ◌<◌, ◌≤◌, List, [], ◌∷◌, ◌++◌, length, get_or, take, drop, sym, refl, ap, ◌∙◌, subst, ⊎_elim, append_assoc, append-nil, arith}
+use Rattle.std.proofs.Common.{◌≡◌, ℕ, ◌≤◌, List, [], ◌∷◌, ◌++◌, length, drop, All, Some, None, Option, MatchOption, Bor, sym, refl, ap, ◌∙◌, subst, inl, inr, ⊎_elim, append_assoc, length-append, arith}
 use Rattle.std.specs.List.{AllByRecursion}
-use Rattle.std.proofs.lemmas.List.{drop_all, drop_more}
+use Rattle.std.specs.Option.{unwrap_or}
+use Rattle.std.proofs.ByRecursion.{All-from_get_or}
 use Rattle.std.proofs.lemmas.Bool.{cases_eq}
-use Rattle.script.specs.Lines.{Unbroken, ended, last_line, LinesOf, NextLine, LinesStand}
-use Rattle.script.proofs.CutParts.{cut_same, split, part_length, part_free}
+use Rattle.script.specs.Lines.{Unbroken, ended, last_line, LinesOf, FirstLine, LinesStand}
+use Rattle.script.proofs.CutParts.{cut_same}
 
 -- nothing is no line
 no_bytes : (whole : List (List ℕ)) (rest : List ℕ) → [] ≡ ended whole ++ rest → (whole ≡ []) × (rest ≡ [])
@@ -17,56 +18,51 @@ no_lines lines is =
     let none = no_bytes is.whole is.rest is.bytes in
     is.all ∙ (λ i. none.0 i ++ last_line (none.1 i))
 
--- past the last byte there is none
-pub none_left : (script : List ℕ) (from : ℕ) → length script ≤ from → LinesOf (drop from script) []
-none_left script from past =
-    record { whole = []; rest = []; each = tt; unbroken = tt; bytes = drop_all from script past; all = refl }
+-- no byte is no line
+pub none_left : LinesOf [] []
+none_left = record { whole = []; rest = []; each = tt; unbroken = tt; bytes = refl; all = refl }
 
 last_is : (line : List ℕ) → 1 ≤ length line → last_line line ≡ line ∷ []
 last_is [] some = absurd (omega arith)
 last_is (byte ∷ line) some = refl
 
-module _ (script : List ℕ) (from to : ℕ) (forward : from ≤ to) (within : to ≤ length script) (some : from < length script)
-    (free : (k : ℕ) → from ≤ k → k < to → get_or script k 0 ≡ 10 → ⊥) (stops : to < length script → get_or script to 0 ≡ 10) where
-  abbrev part : List ℕ
-  part = take (to - from) (drop from script)
+first_ended : (line : List ℕ) (ls : List (List ℕ)) (rest : List ℕ) → ended (line ∷ ls) ++ rest ≡ line ++ (10 ∷ (ended ls ++ rest))
+first_ended line ls rest = simp append_assoc
 
-  -- a line that is ended
-  pub one_more : to < length script → NextLine script from part (to + 1)
-  one_more inside = record {
-    forward = omega arith;
-    within = omega arith;
-    adds = λ lines is.
-        let stop : drop to script ≡ 10 ∷ drop (to + 1) script = drop_more script to 0 inside ∙ ap (λ b. b ∷ drop (to + 1) script) (stops inside) in
-        let flat : ((part ++ 10 ∷ []) ++ ended is.whole) ++ is.rest ≡ part ++ (10 ∷ (ended is.whole ++ is.rest)) = simp append_assoc in
-        record {
-          whole = part ∷ is.whole;
-          rest = is.rest;
-          each = (part_free 10 script from to forward within free stops, is.each);
-          unbroken = is.unbroken;
-          bytes = split 10 script from to forward within free stops ∙ ap (λ l. part ++ l) (stop ∙ ap (λ l. 10 ∷ l) is.bytes) ∙ sym flat;
-          all = ap (λ ls. part ∷ ls) is.all;
-        };
-  }
+-- a line that is ended
+pub one_more : (script line rest : List ℕ) → All (λ byte. byte ≡ 10 → ⊥) line → script ≡ line ++ 10 ∷ rest → FirstLine script line rest
+one_more script line rest free same = record {
+  shorter = omega (arith, ap length same, length-append line (10 ∷ rest));
+  bytes = inl same;
+  adds = λ lines is. record {
+    whole = line ∷ is.whole;
+    rest = is.rest;
+    each = (All-from_get_or (λ byte. byte ≡ 10 → ⊥) line 0 (λ k inside. free k 0 inside), is.each);
+    unbroken = is.unbroken;
+    bytes = same ∙ ap (λ l. line ++ (10 ∷ l)) is.bytes ∙ sym (first_ended line is.whole is.rest);
+    all = ap (λ ls. line ∷ ls) is.all;
+  };
+}
 
-  -- the last line, which is not
-  pub last : to ≡ length script → NextLine script from part to
-  last end = record {
-    forward = omega arith;
-    within = within;
-    adds = λ lines is.
-        let none : drop to script ≡ [] = drop_all to script (omega arith) in
-        let nothing = no_lines lines (subst (λ l. LinesOf l lines) none is) in
-        let long = part_length 10 script from to forward within free stops in
-        record {
-          whole = [];
-          rest = part;
-          each = tt;
-          unbroken = part_free 10 script from to forward within free stops;
-          bytes = split 10 script from to forward within free stops ∙ ap (λ l. part ++ l) none ∙ append-nil part;
-          all = ap (λ ls. part ∷ ls) nothing ∙ sym (last_is part (omega arith));
-        };
-  }
+-- the last line, which is not
+pub last : (script line : List ℕ) → All (λ byte. byte ≡ 10 → ⊥) line → script ≡ line → 1 ≤ length script → FirstLine script line []
+last script line free same some = record {
+  shorter = omega arith;
+  bytes = inr (same, refl);
+  adds = λ lines is. record {
+    whole = [];
+    rest = line;
+    each = tt;
+    unbroken = All-from_get_or (λ byte. byte ≡ 10 → ⊥) line 0 (λ k inside. free k 0 inside);
+    bytes = same;
+    all = ap (λ ls. line ∷ ls) (no_lines lines is) ∙ sym (last_is line (omega (arith, ap length same)));
+  };
+}
+
+-- the part before the first byte 10, and what is after it, if anything
+pub first_line : (script line : List ℕ) (after : Option (Bor (List ℕ))) (none : Bor (List ℕ)) → none.now ≡ [] → All (λ byte. byte ≡ 10 → ⊥) line → MatchOption after (script ≡ line) (λ rest. script ≡ line ++ 10 ∷ rest.now) → 1 ≤ length script → FirstLine script line (unwrap_or after none).now
+first_line script line None none empty free same some = subst (FirstLine script line) (sym empty) (last script line free same some)
+first_line script line (Some rest) none empty free same some = one_more script line rest.now free same
 
 -- a byte before a script
 abbrev Front : ℕ → List (List ℕ) → List ℕ → Type 0
@@ -95,9 +91,6 @@ ends_in [] more [] unbroken e = let z : ◌≡◌ {A = ℕ} 0 1 = cc in omega ar
 ends_in [] more (b ∷ rest) unbroken e = unbroken.0 (cc)
 ends_in (a ∷ line) more [] unbroken e = let z : ◌≡◌ {A = ℕ} 0 1 = cc in omega arith
 ends_in (a ∷ line) more (b ∷ rest) unbroken e = ends_in line more rest unbroken.1 (cc)
-
-first_ended : (line : List ℕ) (ls : List (List ℕ)) (rest : List ℕ) → ended (line ∷ ls) ++ rest ≡ line ++ (10 ∷ (ended ls ++ rest))
-first_ended line ls rest = simp append_assoc
 
 same_lines : (us vs : List (List ℕ)) (r s : List ℕ) → AllByRecursion Unbroken us → AllByRecursion Unbroken vs → Unbroken r → Unbroken s → ended us ++ r ≡ ended vs ++ s → (us ≡ vs) × (r ≡ s)
 same_lines [] [] r s all-us all-vs ur us' e = (refl, e)

@@ -3,6 +3,7 @@
 
 mod arguments;
 pub mod commands;
+mod cuts;
 pub mod descriptions;
 mod ends;
 pub mod groups;

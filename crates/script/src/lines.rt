@@ -1,29 +1,42 @@
 //! The lines of a script.
-ghost use Rattle.std.specs.Prelude.{[], drop, MatchOption};
-ghost use Rattle.script.specs.Lines.{LinesOf, NextLine};
+ghost use Rattle.std.specs.Prelude.{◌≡◌, [], length, MatchOption, ⊤};
+ghost use Rattle.std.specs.Iterator.{at_most};
+ghost use Rattle.script.specs.Lines.{FirstLine, LinesOf, left};
 
-use crate::ends::end_before;
+use crate::cuts::cut;
 
-/// A line of a script, without the byte 10 at its end, and where the next line begins.
-#[derive(Clone, Copy)]
-pub struct Line<'a> {
-    pub bytes: &'a [u8],
-    pub next: usize,
+/// The lines of a script that are still to come, each without the byte 10 at its end.
+#[derive(Drop)]
+pub struct Lines<'a> {
+    rest: &'a [u8],
 }
 
-/// The line that begins at the place; none where the script has no byte from there on.
-pub fn line_at<'a>(script: &'a [u8], from: usize) -> Option<Line<'a>>
-    ensures { MatchOption result
-        (LinesOf (drop from script.now) [])
-        (λ line. NextLine script.now from line.bytes.now line.next) }
-{
-    if from >= script.len() {
-        return None;
+impl<'a> Lines<'a> {
+    /// Those of the whole script.
+    pub fn new(script: &'a [u8]) -> Lines<'a>
+        ensures { left result ≡ script.now }
+    {
+        Lines { rest: script }
     }
-    let end = end_before(script, from, b'\n');
-    let next = if end < script.len() { end + 1 } else { end };
-    Some(Line {
-        bytes: &script[from..end],
-        next,
-    })
+}
+
+impl<'a> Iterator for Lines<'a> {
+    type Item = &'a [u8];
+
+    ghost can_next = { λ lines. ⊤ };
+
+    ghost next_gives = { λ lines line after. MatchOption line
+        (LinesOf (left lines) [] × (left after ≡ left lines))
+        (λ line. FirstLine (left lines) line.now (left after)) };
+
+    ghost remaining = { λ lines. at_most (length (left lines)) };
+
+    fn next(&mut self) -> Option<&'a [u8]> {
+        if self.rest.is_empty() {
+            return None;
+        }
+        let (line, rest) = cut(self.rest, b'\n');
+        self.rest = rest.unwrap_or(&[]);
+        Some(line)
+    }
 }

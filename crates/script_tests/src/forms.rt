@@ -1,19 +1,12 @@
 //! Lines that are forms, and lines that are none.
 use script::commands::{Command, read_command};
 use script::descriptions::{Description, read_description};
-use script::lines::line_at;
+use script::lines::Lines;
 use script::openings::read_opening;
 
 // Whether each line is a command, or none is.
 fn all_commands(script: &[u8], wanted: bool) -> bool {
-    let mut at = 0;
-    while let Some(line) = line_at(script, at) {
-        if read_command(line.bytes).is_some() != wanted {
-            return false;
-        }
-        at = line.next;
-    }
-    true
+    Lines::new(script).all(|line| read_command(line).is_some() == wanted)
 }
 
 #[test]

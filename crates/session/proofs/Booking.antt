@@ -1,5 +1,5 @@
 -- Commands with a label, put together from the label's part and the plan's.
-use Rattle.std.proofs.Common.{◌≡◌, ℕ, ◌⊎◌, List, set, Some, None, Ok, Err, Option, sym, refl, ◌∙◌, subst, ⊎_elim}
+use Rattle.std.proofs.Common.{◌≡◌, ℕ, ◌⊎◌, List, set, None, Ok, Err, Option, sym, refl, ◌∙◌, subst, ⊎_elim}
 use Rattle.labels.specs.Directories.{Lowest}
 use Rattle.labels.specs.declared.names.Name.{Name}
 use Rattle.planner.specs.declared.calls.Call.{Call}

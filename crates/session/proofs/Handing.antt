@@ -1,5 +1,5 @@
 -- Lines that are handed to a printer, one part after another.
-use Rattle.std.proofs.Common.{◌≡◌, ℕ, List, [], ◌∷◌, ◌++◌, sym, refl, ◌∙◌, subst}
+use Rattle.std.proofs.Common.{ℕ, List, [], ◌∷◌, ◌++◌, ◌∙◌, subst}
 use Rattle.session.specs.Output.{Handed}
 use Rattle.session.specs.Parts.{Tells}
 use Rattle.session.specs.declared.tellers.Teller.{Teller}

@@ -1,5 +1,5 @@
 -- Every booked flow has a label, and no other, after each call.
-use Rattle.std.proofs.Common.{◌≡◌, ℕ, ◌<◌, Bool, cond, eqb, List, length, get_or, set, is_some, Some, None, Ok, Err, Option, sym, refl, ap, ◌∙◌, ⊎_elim, arith, get_or-set_other, get_or-set_same, replicate, zero, suc}
+use Rattle.std.proofs.Common.{◌≡◌, ℕ, ◌<◌, cond, eqb, List, length, get_or, set, is_some, Some, None, Ok, Err, Option, sym, refl, ap, ◌∙◌, ⊎_elim, arith, get_or-set_other, get_or-set_same, length-set, replicate, zero, suc}
 use Rattle.std.proofs.lemmas.Bool.{eq-eqb, ne_eqb, cases_eq}
 use Rattle.fabric.specs.Meaning.{Meaning}
 use Rattle.labels.specs.declared.names.Name.{Name}
@@ -43,6 +43,16 @@ accepted s t Start before after len r step = kept_named before after s.booked t.
 accepted s t Rest before after len r step = kept_named before after s.booked t.booked r (λ k. ap (λ u. u.booked k) step)
 accepted s t (Fit d) before after len r step = absurd r
 
+-- there are as many labels as before
+pub relabels_sized : (c : Call) (before after : List (Option Name)) → length before ≡ 64 → Relabels c before after → length after ≡ 64
+relabels_sized (Enrol n f) before after len r = ap length r.2 ∙ length-set before n (Some r.0) ∙ len
+relabels_sized (Admit n f) before after len r = ap length r.2 ∙ length-set before n (Some r.0) ∙ len
+relabels_sized (Withdraw n) before after len r = ap length r.1 ∙ length-set before n None ∙ len
+relabels_sized Replan before after len r = ap length r ∙ len
+relabels_sized Start before after len r = ap length r ∙ len
+relabels_sized Rest before after len r = ap length r ∙ len
+relabels_sized (Fit d) before after len r = absurd r
+
 -- a refused call leaves the plan as it was
 pub refused_same : (s t : Shown) (c : Call) (e : PlanFault) → Step s c (Err e) t → t ≡ s
 refused_same s t (Enrol n f) e h = h.1
@@ -59,8 +69,8 @@ module _ {F : Type 0} (means : F → Meaning) where
   shows_booked (Resting plan) n = refl
   shows_booked (Running plan) n = refl
 
-  shown : (plan : AnyPlan F) (labels : List (Option Name)) → Named (booked_in plan) labels → Named (any_shows means plan).booked labels
-  shown plan labels h n = h n ∙ sym (ap is_some (shows_booked plan n))
+  pub named_shown : (plan : AnyPlan F) (labels : List (Option Name)) → Named (booked_in plan) labels → Named (any_shows means plan).booked labels
+  named_shown plan labels h n = h n ∙ sym (ap is_some (shows_booked plan n))
 
   booked : (plan : AnyPlan F) (labels : List (Option Name)) → Named (any_shows means plan).booked labels → Named (booked_in plan) labels
   booked plan labels h n = h n ∙ ap is_some (shows_booked plan n)
@@ -68,12 +78,12 @@ module _ {F : Type 0} (means : F → Meaning) where
   pub accepted_named : (plan next : AnyPlan F) (c : Call) (before after : List (Option Name)) → length before ≡ 64 → Named (booked_in plan) before → Relabels c before after
       → Step (any_shows means plan) c (Ok tt) (any_shows means next) → Named (booked_in next) after
   accepted_named plan next c before after len h r step =
-      booked next after (accepted (any_shows means plan) (any_shows means next) c before after len r step (shown plan before h))
+      booked next after (accepted (any_shows means plan) (any_shows means next) c before after len r step (named_shown plan before h))
 
   pub refused_named : (plan next : AnyPlan F) (c : Call) (e : PlanFault) (labels : List (Option Name)) → Named (booked_in plan) labels
       → Step (any_shows means plan) c (Err e) (any_shows means next) → Named (booked_in next) labels
   refused_named plan next c e labels h step =
-      booked next labels (kept_named labels labels (any_shows means plan).booked (any_shows means next).booked refl (λ k. ap (λ u. u.booked k) (refused_same (any_shows means plan) (any_shows means next) c e step)) (shown plan labels h))
+      booked next labels (kept_named labels labels (any_shows means plan).booked (any_shows means next).booked refl (λ k. ap (λ u. u.booked k) (refused_same (any_shows means plan) (any_shows means next) c e step)) (named_shown plan labels h))
 
 -- where nothing is booked, no flow has a label
 pub opened_named : (booked : ℕ → Option Flow) → ((n : ℕ) → booked n ≡ None) → Named booked unlabelled

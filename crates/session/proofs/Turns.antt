@@ -1,14 +1,10 @@
 -- A script's lines, told one after another.
-use Rattle.std.proofs.Common.{◌≡◌, ℕ, ◌+◌, ◌⊎◌, List, [], ◌∷◌, ◌++◌, drop, sym, refl, ap, ◌∙◌, subst, inl, inr, append_assoc, append-nil}
-use Rattle.script.specs.Lines.{LinesOf}
+use Rattle.std.proofs.Common.{◌≡◌, ℕ, ◌+◌, List, [], ◌∷◌, ◌++◌, sym, refl, subst, append_assoc, append-nil}
+use Rattle.script.specs.Lines.{FirstLine, LinesOf}
 use Rattle.script.specs.declared.commands.Command.{Command}
 use Rattle.script.specs.declared.commands.Command.TheVariants.{Enrol, Admit, Withdraw, Replan, Start, Rest, Show}
 use Rattle.session.specs.Output.{Answered, CommandTold, LineTold, RestTold}
 use Rattle.session.specs.Sessions.{State}
-
--- the line comes before the lines of what is left after it
-abbrev pub ComesFirst : List ℕ → List ℕ → List ℕ → Type 0
-ComesFirst line after script = (lines : List (List ℕ)) → LinesOf after lines → LinesOf script (line ∷ lines)
 
 -- where this is left of the script, line k is next and the state is s, whatever is told of the lines left follows `done`
 abbrev pub Reaches : List ℕ → ℕ → State → List ℕ → ℕ → State → List (List ℕ) → Type 0
@@ -17,10 +13,10 @@ Reaches script first start left k s done =
     → (all : List (List ℕ)) × LinesOf script all × RestTold first start all (done ++ rest)
 
 pub reaches_more : (script : List ℕ) (first : ℕ) (start : State) (left : List ℕ) (k : ℕ) (s t : State) (done piece : List (List ℕ)) (line after : List ℕ)
-    → Reaches script first start left k s done → ComesFirst line after left → LineTold k s line piece t
+    → Reaches script first start left k s done → FirstLine left line after → LineTold k s line piece t
     → Reaches script first start after (k + 1) t (done ++ piece)
-reaches_more script first start left k s t done piece line after h adds told lines rest l r =
-    let x = h (line ∷ lines) (piece ++ rest) (adds lines l) (piece, rest, t, told, r, refl) in
+reaches_more script first start left k s t done piece line after h next told lines rest l r =
+    let x = h (line ∷ lines) (piece ++ rest) (next.adds lines l) (piece, rest, t, told, r, refl) in
     (x.0, x.1, subst (λ out. RestTold first start x.0 out) (sym (append_assoc done piece rest)) x.2)
 
 pub reaches_all : (script : List ℕ) (first : ℕ) (start : State) (left : List ℕ) (k : ℕ) (s : State) (done : List (List ℕ))

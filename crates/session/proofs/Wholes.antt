@@ -1,12 +1,11 @@
 -- What a whole run prints, from its first lines and the rest.
-use Rattle.std.proofs.Common.{◌≡◌, ℕ, ◌<◌, ◌≤◌, List, [], ◌∷◌, length, IfOk, Ok, Err, Result, refl, inl, inr}
+use Rattle.std.proofs.Common.{◌≡◌, ℕ, ◌<◌, ◌≤◌, List, [], ◌∷◌, length, IfOk, Ok, Err, Result, refl, subst, inl, inr}
 use Rattle.std.proofs.lemmas.Result.{IfOk-weaker}
 use Rattle.fabric.specs.Meaning.{Meaning}
-use Rattle.planner.specs.Shown.{Shown}
 use Rattle.script.proofs.LineLists.{stand}
-use Rattle.script.specs.Lines.{LinesOf}
+use Rattle.script.specs.Lines.{FirstLine, LinesOf}
 use Rattle.session.specs.Answers.{answer_line}
-use Rattle.session.specs.Output.{FabricLine, OpeningLine, OpeningTold, Opens, Output, RestTold, Told, unlabelled}
+use Rattle.session.specs.Output.{FabricLine, OpeningLine, OpeningTold, Opens, Output, RestTold, unlabelled}
 use Rattle.session.specs.Parts.{Tells}
 use Rattle.session.specs.Sessions.{State}
 use Rattle.session.specs.declared.faults.ScriptFault.{ScriptFault}
@@ -14,7 +13,6 @@ use Rattle.session.specs.declared.faults.ScriptFault.TheVariants.{NoForm}
 use Rattle.session.specs.declared.printers.RunFault.{RunFault}
 use Rattle.session.specs.declared.tellers.Teller.{Teller}
 use Rattle.session.proofs.Handing.{tells_more}
-use Rattle.session.proofs.Turns.{ComesFirst}
 
 module _ {P : Type 0} (took : P → List ℕ → P → Type 0) (r : Result (Unit {0}) RunFault) where
   -- what is told from line 3 on
@@ -30,33 +28,33 @@ module _ {P : Type 0} (took : P → List ℕ → P → Type 0) (r : Result (Unit
   abbrev pub Runs : List ℕ → Teller P → Teller P → Type 0
   Runs script w v = (lines : List (List ℕ)) × Output script lines × Tells took w lines v
 
-  pub opening_accepted : (left line after : List ℕ) (m : Meaning) (period : ℕ) (s : Shown) (w u x v : Teller P)
-      → ComesFirst line after left → OpeningLine line (Ok period) → Opens m period s
+  pub opening_accepted : (left line after : List ℕ) (m : Meaning) (period : ℕ) (s : State) (w u x v : Teller P)
+      → FirstLine left line after → OpeningLine line (Ok period) → Opens m period s.shown → s.labels ≡ unlabelled
       → Tells took w (answer_line (Ok tt) 1 ∷ []) u → Tells took u (answer_line (Ok tt) 2 ∷ []) x
-      → IfOk r (λ _. GoesOn after (record { shown = s; labels = unlabelled }) x v) → IfOk r (λ _. OpensOn left m w v)
-  opening_accepted left line after m period s w u x v first ol op h k =
-      IfOk-weaker r (λ _. GoesOn after (record { shown = s; labels = unlabelled }) x v) (λ _. OpensOn left m w v) (λ _ q. (line ∷ q.0, answer_line (Ok tt) 2 ∷ q.1, first q.0 q.2, inr (period, s, q.1, ol, op, q.3, refl), tells_more took (answer_line (Ok tt) 1 ∷ []) (answer_line (Ok tt) 2 ∷ q.1) w u v h (tells_more took (answer_line (Ok tt) 2 ∷ []) q.1 u x v k q.4)))
+      → IfOk r (λ _. GoesOn after s x v) → IfOk r (λ _. OpensOn left m w v)
+  opening_accepted left line after m period s w u x v first ol op none h k =
+      IfOk-weaker r (λ _. GoesOn after s x v) (λ _. OpensOn left m w v) (λ _ q. (line ∷ q.0, answer_line (Ok tt) 2 ∷ q.1, first.adds q.0 q.2, inr (period, s.shown, q.1, ol, op, subst (λ l. RestTold 3 (record { shown = s.shown; labels = l }) q.0 q.1) none q.3, refl), tells_more took (answer_line (Ok tt) 1 ∷ []) (answer_line (Ok tt) 2 ∷ q.1) w u v h (tells_more took (answer_line (Ok tt) 2 ∷ []) q.1 u x v k q.4)))
 
   pub opening_refused : (left line after : List ℕ) (m : Meaning) (f : ScriptFault) (w u v : Teller P)
-      → ComesFirst line after left → OpeningLine line (Err f)
+      → FirstLine left line after → OpeningLine line (Err f)
       → Tells took w (answer_line (Ok tt) 1 ∷ []) u
       → IfOk r (λ _. Tells took u (answer_line (Err f) 2 ∷ []) v) → IfOk r (λ _. OpensOn left m w v)
   opening_refused left line after m f w u v first ol h =
       let all = stand after in
-      IfOk-weaker r (λ _. Tells took u (answer_line (Err f) 2 ∷ []) v) (λ _. OpensOn left m w v) (λ _ q. (line ∷ all.0, answer_line (Err f) 2 ∷ [], first all.0 all.1, inl (f, ol, refl), tells_more took (answer_line (Ok tt) 1 ∷ []) (answer_line (Err f) 2 ∷ []) w u v h q))
+      IfOk-weaker r (λ _. Tells took u (answer_line (Err f) 2 ∷ []) v) (λ _. OpensOn left m w v) (λ _ q. (line ∷ all.0, answer_line (Err f) 2 ∷ [], first.adds all.0 all.1, inl (f, ol, refl), tells_more took (answer_line (Ok tt) 1 ∷ []) (answer_line (Err f) 2 ∷ []) w u v h q))
 
   pub fabric_accepted : (script line after : List ℕ) (m : Meaning) (w v : Teller P)
-      → length script ≤ 16384 → ComesFirst line after script → FabricLine line (Ok m)
+      → length script ≤ 16384 → FirstLine script line after → FabricLine line (Ok m)
       → IfOk r (λ _. OpensOn after m w v) → IfOk r (λ _. Runs script w v)
   fabric_accepted script line after m w v few first fl =
-      IfOk-weaker r (λ _. OpensOn after m w v) (λ _. Runs script w v) (λ _ q. (answer_line (Ok tt) 1 ∷ q.1, inr (few, (line ∷ q.0, first q.0 q.2, inr (m, q.1, fl, q.3, refl))), q.4))
+      IfOk-weaker r (λ _. OpensOn after m w v) (λ _. Runs script w v) (λ _ q. (answer_line (Ok tt) 1 ∷ q.1, inr (few, (line ∷ q.0, first.adds q.0 q.2, inr (m, q.1, fl, q.3, refl))), q.4))
 
   pub fabric_refused : (script line after : List ℕ) (f : ScriptFault) (w v : Teller P)
-      → length script ≤ 16384 → ComesFirst line after script → FabricLine line (Err f)
+      → length script ≤ 16384 → FirstLine script line after → FabricLine line (Err f)
       → IfOk r (λ _. Tells took w (answer_line (Err f) 1 ∷ []) v) → IfOk r (λ _. Runs script w v)
   fabric_refused script line after f w v few first fl =
       let all = stand after in
-      IfOk-weaker r (λ _. Tells took w (answer_line (Err f) 1 ∷ []) v) (λ _. Runs script w v) (λ _ q. (answer_line (Err f) 1 ∷ [], inr (few, (line ∷ all.0, first all.0 all.1, inl (f, fl, refl))), q))
+      IfOk-weaker r (λ _. Tells took w (answer_line (Err f) 1 ∷ []) v) (λ _. Runs script w v) (λ _ q. (answer_line (Err f) 1 ∷ [], inr (few, (line ∷ all.0, first.adds all.0 all.1, inl (f, fl, refl))), q))
 
   pub too_long : (script : List ℕ) (w v : Teller P) → 16384 < length script
       → IfOk r (λ _. Tells took w (answer_line (Err NoForm) 0 ∷ []) v) → IfOk r (λ _. Runs script w v)

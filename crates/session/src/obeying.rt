@@ -30,11 +30,7 @@ fn flow_of(wanted: Wanted) -> Flow
 
 impl<F: Fabric + Drop> Session<F> {
     // The labels with the one that is wanted, where the state allows the call and the label may be bound.
-    fn labels_with(
-        &self,
-        call: Call,
-        wanted: Wanted,
-    ) -> Result<[Option<Name>; 64], ScriptFault>
+    fn labels_with(&self, call: Call, wanted: Wanted) -> Result<[Option<Name>; 64], ScriptFault>
         ensures { Labelled (state_of self.now) call wanted result }
     {
         if !allows(self.plan.is_running(), call) {

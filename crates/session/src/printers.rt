@@ -22,8 +22,8 @@ impl fmt::Display for RunFault {
 
     fn fmt<W: fmt::Write>(&self, f: &mut fmt::Formatter<W>) -> fmt::Result {
         match self {
-            RunFault::NoMemory => write!(f, "there is no memory for a line"),
-            RunFault::Unprinted => write!(f, "a line cannot be printed"),
+            Self::NoMemory => write!(f, "there is no memory for a line"),
+            Self::Unprinted => write!(f, "a line cannot be printed"),
         }
     }
 }

@@ -1,6 +1,6 @@
 //! How a script is run.
 ghost use Rattle.std.specs.Prelude.{◌≡◌, ℕ, ◌≤◌, List, [], ◌∷◌, length, IfOk, Ok, OnOk};
-ghost use Rattle.script.specs.Lines.{LinesOf};
+ghost use Rattle.script.specs.Lines.{LinesOf, left};
 ghost use Rattle.session.specs.Answers.{answer_line};
 ghost use Rattle.session.specs.Output.{CommandTold, Handed, LineTold, OpeningTold, Output, RestTold};
 ghost use Rattle.session.specs.Parts.{Tells, state_of};
@@ -14,7 +14,7 @@ use crate::starting::{build, period_of};
 use crate::tellers::Teller;
 use fabric::Fabric;
 use script::commands::{Command, read_command};
-use script::lines::line_at;
+use script::lines::Lines;
 use std::alloc::Global;
 
 // How many bytes a script may have.
@@ -61,52 +61,68 @@ impl<P: Printer> Teller<'_, P> {
         }
     }
 
-    // Obeys the lines of what is left of a script, of which the first is line 3.
+    // Obeys the lines that are left of a script, of which the first is line 3.
     fn run_rest<F: Fabric + Drop>(
         &mut self,
-        script: &[u8],
-        opened: Session<F>,
+        lines: Lines<'_>,
+        mut session: Session<F>,
     ) -> Result<(), RunFault>
-        requires { length script.now ≤ 16384 }
-        ensures { OnOk result ((lines : List (List ℕ)) × (told : List (List ℕ)) × LinesOf script.now lines × RestTold 3 (state_of opened) lines told × Tells P.Printer.took self.old told self.new) }
+        requires { length (left lines) ≤ 16384 }
+        ensures { OnOk result ((all : List (List ℕ)) × (told : List (List ℕ)) × LinesOf (left lines.entry) all × RestTold 3 (state_of session) all told × Tells P.Printer.took self.old told self.new) }
     {
-        let mut session = opened;
-        let mut left = script;
-        let mut number = 3;
-        while let Some(line) = line_at(left, 0) {
-            session = self.tell_line(session, line.bytes, number)?;
-            left = &left[line.next..];
-            number += 1;
+        for (number, line) in (3..).zip(lines) {
+            session = self.tell_line(session, line, number)?;
         }
         Ok(())
     }
 
-    // Runs the lines of what is left of a script, of which the first is line 2, over the fabric of line 1.
-    fn run_over<F: Fabric + Drop>(&mut self, script: &[u8], fabric: F) -> Result<(), RunFault>
-        requires { length script.now ≤ 16384 }
-        ensures { OnOk result ((lines : List (List ℕ)) × (told : List (List ℕ)) × LinesOf script.now lines × OpeningTold (F.Fabric.meaning fabric) lines told × Tells P.Printer.took self.old (answer_line (Ok tt) 1 ∷ told) self.new) }
+    // Runs the lines that are left of a script, of which the first is line 2, over the fabric of line 1.
+    fn run_over<F: Fabric + Drop>(
+        &mut self,
+        mut lines: Lines<'_>,
+        fabric: F,
+    ) -> Result<(), RunFault>
+        requires { length (left lines) ≤ 16384 }
+        ensures { OnOk result ((all : List (List ℕ)) × (told : List (List ℕ)) × LinesOf (left lines.entry) all × OpeningTold (F.Fabric.meaning fabric) all told × Tells P.Printer.took self.old (answer_line (Ok tt) 1 ∷ told) self.new) }
     {
         self.answer(Ok(()), 1)?;
-        let Some(line) = line_at(script, 0) else {
+        let Some(line) = lines.next() else {
             return Ok(());
         };
-        match period_of(line.bytes) {
+        match period_of(line) {
             Ok(period) => {
                 self.answer(Ok(()), 2)?;
-                self.run_rest(&script[line.next..], Session::open(fabric, period))
+                self.run_rest(lines, Session::open(fabric, period))
             }
             Err(fault) => self.answer(Err(fault), 2),
         }
     }
 
     // The same, over a fabric of either kind.
-    fn run_built(&mut self, script: &[u8], built: Built) -> Result<(), RunFault>
-        requires { length script.now ≤ 16384 }
-        ensures { OnOk result ((lines : List (List ℕ)) × (told : List (List ℕ)) × LinesOf script.now lines × OpeningTold (built_meaning built) lines told × Tells P.Printer.took self.old (answer_line (Ok tt) 1 ∷ told) self.new) }
+    fn run_built(&mut self, lines: Lines<'_>, built: Built) -> Result<(), RunFault>
+        requires { length (left lines) ≤ 16384 }
+        ensures { OnOk result ((all : List (List ℕ)) × (told : List (List ℕ)) × LinesOf (left lines.entry) all × OpeningTold (built_meaning built) all told × Tells P.Printer.took self.old (answer_line (Ok tt) 1 ∷ told) self.new) }
     {
         match built {
-            Built::Line(fabric) => self.run_over(script, fabric),
-            Built::Tree(fabric) => self.run_over(script, fabric),
+            Built::Line(fabric) => self.run_over(lines, fabric),
+            Built::Tree(fabric) => self.run_over(lines, fabric),
+        }
+    }
+
+    // Runs a script.
+    fn run(&mut self, script: &[u8]) -> Result<(), RunFault>
+        ensures { OnOk result ((told : List (List ℕ)) × Output script.now told × Tells P.Printer.took self.old told self.new) }
+    {
+        if script.len() > LIMIT {
+            return self.answer(Err(ScriptFault::NoForm), 0);
+        }
+        let mut lines = Lines::new(script);
+        let Some(line) = lines.next() else {
+            return Ok(());
+        };
+        match build(line) {
+            Ok(built) => self.run_built(lines, built),
+            Err(fault) => self.answer(Err(fault), 1),
         }
     }
 }
@@ -116,14 +132,5 @@ pub fn run_script<P: Printer>(script: &[u8], heap: Global, out: &mut P) -> Resul
     ensures { OnOk result ((lines : List (List ℕ)) × Output script.now lines × Handed P.Printer.took out.old lines out.new) }
 {
     let mut teller = Teller { heap, out };
-    if script.len() > LIMIT {
-        return teller.answer(Err(ScriptFault::NoForm), 0);
-    }
-    let Some(line) = line_at(script, 0) else {
-        return Ok(());
-    };
-    match build(line.bytes) {
-        Ok(built) => teller.run_built(&script[line.next..], built),
-        Err(fault) => teller.answer(Err(fault), 1),
-    }
+    teller.run(script)
 }

@@ -1,4 +1,4 @@
-use Rattle.std.proofs.Common.{length, le_refl, arith}
+use Rattle.std.proofs.Common.{length, arith}
 use Rattle.std.proofs.lemmas.Str.Ascii.{IsAscii-from_reads}
 use Rattle.std.proofs.lemmas.Str.{IsUtf8-from_ascii}
 use Rattle.session.proofs.showing.name_text.Goals as goal

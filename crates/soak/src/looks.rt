@@ -30,17 +30,21 @@ fn meet<F: Fabric>(plan: &AnyPlan<F>, one: u16, other: u16) -> bool {
 
 // Whether two flows are carried on one link in one slot.
 fn clash<F: Fabric>(plan: &AnyPlan<F>, twin: &F, one: u16, other: u16) -> bool {
-    plan.flow(one)
-        .zip(plan.flow(other))
-        .is_some_and(|(first, second)| {
-            meet(plan, one, other) && overlap(twin, first.ends, second.ends)
-        })
+    plan.flow(one).zip(plan.flow(other)).is_some_and(|(first, second)| {
+        meet(plan, one, other) && overlap(twin, first.ends, second.ends)
+    })
+}
+
+// With how many flows below it the flow is carried on one link in one slot.
+fn clashes<F: Fabric>(plan: &AnyPlan<F>, twin: &F, one: u16) -> usize {
+    (0..one)
+        .filter(|other| clash(plan, twin, one, *other))
+        .count()
 }
 
 /// How many pairs of flows are carried on one link in one slot.
 pub(crate) fn doubles<F: Fabric>(plan: &AnyPlan<F>, twin: &F) -> usize {
     (0..64)
-        .flat_map(|one| (0..one).map(move |other| (one, other)))
-        .filter(|(one, other)| clash(plan, twin, *one, *other))
-        .count()
+        .map(|one| clashes(plan, twin, one))
+        .fold(0, usize::saturating_add)
 }

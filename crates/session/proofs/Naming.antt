@@ -1,5 +1,5 @@
 -- Every booked flow has a label, and no other, after each call.
-use Rattle.std.proofs.Common.{◌≡◌, ℕ, ◌<◌, cond, eqb, List, length, get_or, set, is_some, Some, None, Ok, Err, Option, sym, refl, ap, ◌∙◌, ⊎_elim, arith, get_or-set_other, get_or-set_same, length-set, replicate, zero, suc}
+use Rattle.std.proofs.Common.{◌⊎◌, is_ok, true, false, Result, inl, inr, subst, ◌≡◌, ℕ, ◌<◌, cond, eqb, List, length, get_or, set, is_some, Some, None, Ok, Err, Option, sym, refl, ap, ◌∙◌, ⊎_elim, arith, get_or-set_other, get_or-set_same, length-set, replicate, zero, suc}
 use Rattle.std.proofs.lemmas.Bool.{eq-eqb, ne_eqb, cases_eq}
 use Rattle.fabric.specs.Meaning.{Meaning}
 use Rattle.labels.specs.declared.names.Name.{Name}
@@ -44,14 +44,14 @@ accepted s t Rest before after len r step = kept_named before after s.booked t.b
 accepted s t (Fit d) before after len r step = absurd r
 
 -- there are as many labels as before
-pub relabels_sized : (c : Call) (before after : List (Option Name)) → length before ≡ 64 → Relabels c before after → length after ≡ 64
-relabels_sized (Enrol n f) before after len r = ap length r.2 ∙ length-set before n (Some r.0) ∙ len
-relabels_sized (Admit n f) before after len r = ap length r.2 ∙ length-set before n (Some r.0) ∙ len
-relabels_sized (Withdraw n) before after len r = ap length r.1 ∙ length-set before n None ∙ len
-relabels_sized Replan before after len r = ap length r ∙ len
-relabels_sized Start before after len r = ap length r ∙ len
-relabels_sized Rest before after len r = ap length r ∙ len
-relabels_sized (Fit d) before after len r = absurd r
+relabels_length : (c : Call) (before after : List (Option Name)) → Relabels c before after → length after ≡ length before
+relabels_length (Enrol n f) before after r = ap length r.2 ∙ length-set before n (Some r.0)
+relabels_length (Admit n f) before after r = ap length r.2 ∙ length-set before n (Some r.0)
+relabels_length (Withdraw n) before after r = ap length r.1 ∙ length-set before n None
+relabels_length Replan before after r = ap length r
+relabels_length Start before after r = ap length r
+relabels_length Rest before after r = ap length r
+relabels_length (Fit d) before after r = absurd r
 
 -- a refused call leaves the plan as it was
 pub refused_same : (s t : Shown) (c : Call) (e : PlanFault) → Step s c (Err e) t → t ≡ s
@@ -63,9 +63,18 @@ refused_same s t Start e h = absurd h
 refused_same s t Rest e h = absurd h
 refused_same s t (Fit d) e h = absurd h
 
+-- the labels after a call: where it was accepted, those that it leaves
+abbrev pub Leaves : (before relabelled after : List (Option Name)) → Result (Unit {0}) PlanFault → Type 0
+Leaves before relabelled after a = ((is_ok a ≡ true) × (after ≡ relabelled)) ⊎ ((is_ok a ≡ false) × (after ≡ before))
+
+pub sized : (c : Call) (a : Result (Unit {0}) PlanFault) (before relabelled after : List (Option Name)) → length before ≡ 64 → Relabels c before relabelled
+    → Leaves before relabelled after a → length after ≡ 64
+sized c a before relabelled after len r l =
+    ⊎_elim (λ p. ap length p.1 ∙ relabels_length c before relabelled r ∙ len) (λ p. ap length p.1 ∙ len) l
+
 module _ {F : Type 0} (means : F → Meaning) where
   -- a plan shows what it has booked
-  pub shows_booked : (plan : AnyPlan F) (n : ℕ) → (any_shows means plan).booked n ≡ booked_in plan n
+  shows_booked : (plan : AnyPlan F) (n : ℕ) → (any_shows means plan).booked n ≡ booked_in plan n
   shows_booked (Resting plan) n = refl
   shows_booked (Running plan) n = refl
 
@@ -75,15 +84,14 @@ module _ {F : Type 0} (means : F → Meaning) where
   booked : (plan : AnyPlan F) (labels : List (Option Name)) → Named (any_shows means plan).booked labels → Named (booked_in plan) labels
   booked plan labels h n = h n ∙ ap is_some (shows_booked plan n)
 
-  pub accepted_named : (plan next : AnyPlan F) (c : Call) (before after : List (Option Name)) → length before ≡ 64 → Named (booked_in plan) before → Relabels c before after
-      → Step (any_shows means plan) c (Ok tt) (any_shows means next) → Named (booked_in next) after
-  accepted_named plan next c before after len h r step =
-      booked next after (accepted (any_shows means plan) (any_shows means next) c before after len r step (named_shown plan before h))
-
-  pub refused_named : (plan next : AnyPlan F) (c : Call) (e : PlanFault) (labels : List (Option Name)) → Named (booked_in plan) labels
-      → Step (any_shows means plan) c (Err e) (any_shows means next) → Named (booked_in next) labels
-  refused_named plan next c e labels h step =
-      booked next labels (kept_named labels labels (any_shows means plan).booked (any_shows means next).booked refl (λ k. ap (λ u. u.booked k) (refused_same (any_shows means plan) (any_shows means next) c e step)) (named_shown plan labels h))
+  pub named : (plan next : AnyPlan F) (c : Call) (a : Result (Unit {0}) PlanFault) (before relabelled after : List (Option Name)) → length before ≡ 64 → Named (booked_in plan) before → Relabels c before relabelled
+      → Step (any_shows means plan) c a (any_shows means next) → Leaves before relabelled after a → Named (booked_in next) after
+  named plan next c (Ok x) before relabelled after len h r step (inl p) =
+      subst (Named (booked_in next)) (sym p.1) (booked next relabelled (accepted (any_shows means plan) (any_shows means next) c before relabelled len r step (named_shown plan before h)))
+  named plan next c (Ok x) before relabelled after len h r step (inr p) = let no = p.0 in cc
+  named plan next c (Err e) before relabelled after len h r step (inl p) = let no = p.0 in cc
+  named plan next c (Err e) before relabelled after len h r step (inr p) =
+      subst (Named (booked_in next)) (sym p.1) (booked next before (kept_named before before (any_shows means plan).booked (any_shows means next).booked refl (λ k. ap (λ u. u.booked k) (refused_same (any_shows means plan) (any_shows means next) c e step)) (named_shown plan before h)))
 
 -- where nothing is booked, no flow has a label
 pub opened_named : (booked : ℕ → Option Flow) → ((n : ℕ) → booked n ≡ None) → Named booked unlabelled

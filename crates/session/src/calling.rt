@@ -28,7 +28,7 @@ pub(crate) fn allows(running: bool, call: Call) -> bool
 
 impl<F: Fabric + Drop> Session<F> {
     /// An empty plan over the fabric, with a period of that length.
-    pub(crate) fn open(fabric: F, length: Period) -> Session<F>
+    pub(crate) fn open(fabric: F, length: Period) -> Self
         ensures opens { Opens (F.Fabric.meaning fabric) length.slots (state_of result).shown }
         ensures none { result.labels ≡ unlabelled }
     {
@@ -42,33 +42,20 @@ impl<F: Fabric + Drop> Session<F> {
     pub(crate) fn make(
         self,
         call: Call,
-        labels: [Option<Name>; 64],
-    ) -> (Session<F>, Result<(), ScriptFault>)
-        requires { Relabels call self.labels labels }
-        ensures { Makes (state_of self) call labels result.1 (state_of result.0) }
+        relabelled: [Option<Name>; 64],
+    ) -> (Self, Result<(), ScriptFault>)
+        requires { Relabels call self.labels relabelled }
+        ensures { Makes (state_of self) call relabelled result.1 (state_of result.0) }
     {
-        let Session {
-            plan,
-            labels: before,
-        } = self;
+        let Session { plan, mut labels } = self;
         match perform(plan, call) {
-            Outcome::Answered(plan, answer) => match answer {
-                Ok(()) => (Session { plan, labels }, Ok(())),
-                Err(fault) => (
-                    Session {
-                        plan,
-                        labels: before,
-                    },
-                    Err(fault.into()),
-                ),
-            },
-            Outcome::NotAllowed(plan) => (
-                Session {
-                    plan,
-                    labels: before,
-                },
-                Err(ScriptFault::WrongState),
-            ),
+            Outcome::Answered(plan, answer) => {
+                if answer.is_ok() {
+                    labels = relabelled;
+                }
+                (Session { plan, labels }, answer.map_err(ScriptFault::Plan))
+            }
+            Outcome::NotAllowed(plan) => (Session { plan, labels }, Err(ScriptFault::WrongState)),
             Outcome::Fitted(_) => unreachable(),
         }
     }

@@ -42,7 +42,7 @@ impl<F: Fabric + Drop> Session<F> {
     }
 
     // Books a flow under a label.
-    fn book(self, call: Call, wanted: Wanted) -> (Session<F>, Result<(), ScriptFault>)
+    fn book(self, call: Call, wanted: Wanted) -> (Self, Result<(), ScriptFault>)
         requires { (call ≡ Enrol wanted.number (flow_of wanted)) ⊎ (call ≡ Admit wanted.number (flow_of wanted)) }
         ensures { BooksLabelled (state_of self) call wanted result.1 (state_of result.0) }
     {
@@ -53,7 +53,7 @@ impl<F: Fabric + Drop> Session<F> {
     }
 
     // Withdraws the flow of a label.
-    fn unbook(self, name: Name) -> (Session<F>, Result<(), ScriptFault>)
+    fn unbook(self, name: Name) -> (Self, Result<(), ScriptFault>)
         ensures { UnbooksLabelled (state_of self) name result.1 (state_of result.0) }
     {
         match find_bound(&self.labels, name) {
@@ -67,7 +67,7 @@ impl<F: Fabric + Drop> Session<F> {
     }
 
     /// Obeys a command that is not `show`.
-    pub(crate) fn obey(self, command: Command) -> (Session<F>, Result<(), ScriptFault>)
+    pub(crate) fn obey(self, command: Command) -> (Self, Result<(), ScriptFault>)
         requires { command ≢ Show }
         ensures { Obeyed (state_of self) command result.1 (state_of result.0) }
     {

@@ -4,7 +4,6 @@ ghost use Rattle.script.specs.Lines.{LinesOf, left};
 ghost use Rattle.session.specs.Answers.{answer_line};
 ghost use Rattle.session.specs.Output.{CommandTold, Handed, LineTold, OpeningTold, Output, RestTold};
 ghost use Rattle.session.specs.Parts.{Tells, state_of};
-ghost use Rattle.session.specs.Starts.{built_meaning};
 
 use crate::builds::Built;
 use crate::faults::ScriptFault;
@@ -98,17 +97,6 @@ impl<P: Printer> Teller<'_, P> {
         }
     }
 
-    // The same, over a fabric of either kind.
-    fn run_built(&mut self, lines: Lines<'_>, built: Built) -> Result<(), RunFault>
-        requires { length (left lines) ≤ 16384 }
-        ensures { OnOk result ((all : List (List ℕ)) × (told : List (List ℕ)) × LinesOf (left lines.entry) all × OpeningTold (built_meaning built) all told × Tells P.Printer.took self.old (answer_line (Ok tt) 1 ∷ told) self.new) }
-    {
-        match built {
-            Built::Line(fabric) => self.run_over(lines, fabric),
-            Built::Tree(fabric) => self.run_over(lines, fabric),
-        }
-    }
-
     // Runs a script.
     fn run(&mut self, script: &[u8]) -> Result<(), RunFault>
         ensures { OnOk result ((told : List (List ℕ)) × Output script.now told × Tells P.Printer.took self.old told self.new) }
@@ -121,7 +109,8 @@ impl<P: Printer> Teller<'_, P> {
             return Ok(());
         };
         match build(line) {
-            Ok(built) => self.run_built(lines, built),
+            Ok(Built::Line(fabric)) => self.run_over(lines, fabric),
+            Ok(Built::Tree(fabric)) => self.run_over(lines, fabric),
             Err(fault) => self.answer(Err(fault), 1),
         }
     }
@@ -131,6 +120,5 @@ impl<P: Printer> Teller<'_, P> {
 pub fn run_script<P: Printer>(script: &[u8], heap: Global, out: &mut P) -> Result<(), RunFault>
     ensures { OnOk result ((lines : List (List ℕ)) × Output script.now lines × Handed P.Printer.took out.old lines out.new) }
 {
-    let mut teller = Teller { heap, out };
-    teller.run(script)
+    Teller { heap, out }.run(script)
 }

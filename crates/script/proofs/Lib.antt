@@ -1,13 +1,8 @@
-pub mod NumberWords
-pub mod CutParts
-pub mod WordLists
-pub mod MarkLists
-pub mod VerbWords
-pub mod FormWords
+pub mod PartLists
+pub mod ItemLists
 pub mod CommandWords
-pub mod TreeWords
 pub mod DescriptionWords
-pub mod OpeningWords
+pub mod TreeWords
 pub mod LineLists
 pub mod RunLists
 pub mod MemberLists

@@ -1,28 +1,18 @@
--- Members of a row: what they are, and how a walk along it finds them.
-use Rattle.std.proofs.Common.{◌≡◌, ℕ, zero, suc, ◌+◌, ◌-◌, ◌<◌, ◌≤◌, Bool, true, false, List, [], ◌∷◌, length, get_or, drop, sym, refl, ap, ◌∙◌, subst, inl, inr, ⊎_elim, arith}
-use Rattle.std.proofs.lemmas.List.{drop_all, drop_more}
-use Rattle.std.proofs.lemmas.Bool.{cases_Bool, false≢true}
+-- Members of a row: what they are.
+use Rattle.std.proofs.Common.{◌≡◌, ℕ, zero, suc, ◌+◌, ◌-◌, ◌≤◌, Bool, true, false, List, [], ◌∷◌, get_or, Option, sym, refl, ap, subst, inl, inr, arith}
+use Rattle.std.specs.List.{filter_map, enumerate_from}
+use Rattle.std.specs.Bool.{then_some}
+use Rattle.std.proofs.lemmas.Bool.{false≢true}
 use Rattle.script.specs.Groups.{members_from, members, Ascending, Among, MembersOf, MembersStand}
 
-module _ (row : List Bool) where
-  abbrev from_on : ℕ → List ℕ
-  from_on at = members_from at (drop at row)
+-- a number of the row, if it is held
+abbrev pub number_held : ℕ × Bool → Option ℕ
+number_held (number, held) = then_some held number
 
-  skip : (n at to : ℕ) → to ≡ at + n → to ≤ length row → ((k : ℕ) → at ≤ k → k < to → get_or row k false ≡ true → ⊥) → from_on at ≡ from_on to
-  skip zero at to end within none = ap from_on (omega arith)
-  skip (suc n) at to end within none =
-      let free : get_or row at false ≡ false = ⊎_elim (λ t. absurd (none at (omega arith) (omega arith) t)) (λ f. f) (cases_Bool (get_or row at false)) in
-      ap (members_from at) (drop_more row at false (omega arith) ∙ ap (λ b. b ∷ drop (at + 1) row) free)
-      ∙ skip n (at + 1) to (omega arith) within (λ k low high. none k (omega arith) high)
-
-  pub no_member : (at : ℕ) → at ≤ length row → ((k : ℕ) → at ≤ k → k < length row → get_or row k false ≡ true → ⊥) → from_on at ≡ []
-  no_member at within none =
-      skip (length row - at) at (length row) (omega arith) (omega arith) none ∙ ap (members_from (length row)) (drop_all (length row) row (omega arith))
-
-  pub a_member : (at number : ℕ) → at ≤ number → number < length row → ((k : ℕ) → at ≤ k → k < number → get_or row k false ≡ true → ⊥) → get_or row number false ≡ true → from_on at ≡ number ∷ from_on (number + 1)
-  a_member at number low inside none here =
-      skip (number - at) at number (omega arith) (omega arith) none
-      ∙ ap (members_from number) (drop_more row number false inside ∙ ap (λ b. b ∷ drop (number + 1) row) here)
+pub members_are : (at : ℕ) (row : List Bool) → filter_map number_held (enumerate_from at row) ≡ members_from at row
+members_are at [] = refl
+members_are at (true ∷ row) = ap (λ l. at ∷ l) (members_are (at + 1) row)
+members_are at (false ∷ row) = members_are (at + 1) row
 
 -- the same of a row whose first number is `at`
 pub record From (at : ℕ) (row : List Bool) (all : List ℕ) : Type 0 where

@@ -1,9 +1,16 @@
 -- Runs of a row, as a walk along it finds them.
-use Rattle.std.proofs.Common.{◌≡◌, ℕ, zero, suc, ◌+◌, ◌-◌, ◌<◌, ◌≤◌, Bool, true, false, cond, eqb, List, [], ◌∷◌, length, get_or, drop, sym, refl, ap, ◌∙◌, subst, ⊎_elim, arith}
-use Rattle.std.proofs.lemmas.List.{drop_all, drop_more}
+use Rattle.std.proofs.Common.{◌≡◌, ℕ, zero, suc, ◌+◌, ◌-◌, ◌<◌, ◌≤◌, Bool, true, false, cond, eqb, List, [], ◌∷◌, length, get_or, drop, sym, refl, ap, ◌∙◌, subst, ⊎_elim, arith, length-drop, Some, None, Option, MatchOption}
+use Rattle.std.proofs.lemmas.List.{drop_all, drop_more, take_all, get_or-drop}
+use Rattle.std.specs.List.{slice_range}
+use Rattle.std.specs.Option.{unwrap_or}
 use Rattle.std.proofs.lemmas.Bool.{cases_Bool, cases_lt, true≢false, eq-eqb, ne_eqb}
 use Rattle.script.specs.declared.ranges.Run.{Run}
 use Rattle.script.specs.Ranges.{grown, runs_from}
+
+-- what is left of a row from a place on
+pub rest_at : (row rest : List Bool) (from : ℕ) → rest ≡ slice_range row from (length row) → (k : ℕ) → get_or rest k false ≡ get_or row (from + k) false
+rest_at row rest from same k =
+    ap (λ l. get_or l k false) (same ∙ take_all (length row - from) (drop from row) (omega (arith, length-drop from row))) ∙ get_or-drop from row k false
 
 -- the first run begins there or later
 abbrev Later : ℕ → List Run → Type 0
@@ -71,13 +78,16 @@ module _ (row : List Bool) where
       ∙ ap (grown at) (run n (at + 1) to (omega arith) within (λ k low high. all k (omega arith) high) stops)
       ∙ grown_joined at to (from_on to)
 
-  pub no_run : (at : ℕ) → at ≤ length row → ((k : ℕ) → at ≤ k → k < length row → get_or row k false ≡ true → ⊥) → from_on at ≡ []
-  no_run at within none =
-      skip (length row - at) at (length row) (omega arith) (omega arith) none ∙ ap (runs_from (length row)) (drop_all (length row) row (omega arith))
+  pub no_run : (at : ℕ) → ((k : ℕ) → at ≤ k → k < length row → get_or row k false ≡ true → ⊥) → from_on at ≡ []
+  no_run at none =
+      ⊎_elim
+      (λ inside. skip (length row - at) at (length row) (omega arith) (omega arith) none ∙ ap (runs_from (length row)) (drop_all (length row) row (omega arith)))
+      (λ past. ap (runs_from at) (drop_all at row past))
+      (cases_lt at (length row))
 
   module _ (at from to : ℕ) (low : at ≤ from) (some : from < length row) (none : (k : ℕ) → at ≤ k → k < from → get_or row k false ≡ true → ⊥) (slot : get_or row from false ≡ true)
       (forward : from ≤ to) (within : to ≤ length row) (all : (k : ℕ) → from ≤ k → k < to → get_or row k false ≡ false → ⊥) (stops : to < length row → get_or row to false ≡ false) where
-    pub longer : from < to
+    longer : from < to
     longer =
         ⊎_elim
         (λ less. less)
@@ -86,8 +96,17 @@ module _ (row : List Bool) where
         absurd (true≢false (sym slot ∙ ap (λ k. get_or row k false) (sym same) ∙ stops (omega arith))))
         (cases_lt from to)
 
-    pub a_run : from_on at ≡ record { from = from; to = to } ∷ from_on to
+    a_run : from_on at ≡ record { from = from; to = to } ∷ from_on to
     a_run =
         let more = longer in
         skip (from - at) at from (omega arith) (omega arith) none
         ∙ run (to - from - 1) from to (omega arith) within (λ k low high. ⊎_elim (λ t. t) (λ f. absurd (all k low high f)) (cases_Bool (get_or row k false))) stops
+
+  -- a run ends before the first slot that is not held, or with the row
+  pub first_run : (at from : ℕ) (end : Option ℕ) → (at ≤ from) × (from < length row) × ((k : ℕ) → at ≤ k → k < from → get_or row k false ≡ true → ⊥) × (get_or row from false ≡ true)
+      → MatchOption end ((k : ℕ) → from ≤ k → k < length row → get_or row k false ≡ false → ⊥) (λ to. (from ≤ to) × (to < length row) × ((k : ℕ) → from ≤ k → k < to → get_or row k false ≡ false → ⊥) × (get_or row to false ≡ false))
+      → from_on at ≡ record { from = from; to = unwrap_or end (length row) } ∷ from_on (unwrap_or end (length row))
+  first_run at from None (low, some, none, slot) all =
+      a_run at from (length row) low some none slot (omega arith) (omega arith) all (λ inside. absurd (omega (arith, inside)))
+  first_run at from (Some to) (low, some, none, slot) (forward, within, all, stops) =
+      a_run at from to low some none slot forward (omega arith) all (λ inside. stops)

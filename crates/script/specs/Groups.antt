@@ -1,11 +1,10 @@
 -- Groups of flows, and how they are written.
-use Rattle.std.specs.Prelude.{◌≡◌, ℕ, ◌+◌, ◌≤◌, Bool, true, false, cond, ◌⊎◌, List, [], ◌∷◌, ◌++◌, codes, decimal, slice_index_or}
-use Rattle.std.specs.List.{flat_map}
+use Rattle.std.specs.Prelude.{◌≡◌, ℕ, ◌+◌, ◌≤◌, Bool, true, false, cond, ◌⊎◌, List, [], ◌∷◌, decimal, slice_index_or}
+use Rattle.script.specs.Lists.{parted}
 
 -- numbers parted by commas
 abbrev pub commas : List ℕ → List ℕ
-commas [] = []
-commas (n ∷ more) = decimal n ++ flat_map (λ next. codes "," ++ decimal next) more
+commas = parted decimal []
 
 -- the numbers that are held in a row whose first number is `at`
 abbrev pub members_from : ℕ → List Bool → List ℕ

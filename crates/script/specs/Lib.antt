@@ -1,5 +1,5 @@
+pub mod Lists
 pub mod Words
-pub mod Marks
 pub mod Verbs
 pub mod Commands
 pub mod Descriptions

@@ -1,7 +1,8 @@
 -- Runs of held slots, and how they are written.
-use Rattle.std.specs.Prelude.{◌≡◌, ℕ, ◌+◌, ◌<◌, ◌≤◌, Bool, true, false, cond, ◌⊎◌, List, [], ◌∷◌, ◌++◌, codes, decimal, ◌==◌, slice_index_or}
-use Rattle.std.specs.List.{flat_map}
+use Rattle.std.specs.Prelude.{◌≡◌, ℕ, ◌+◌, ◌<◌, ◌≤◌, Bool, true, false, cond, ◌⊎◌, List, [], ◌∷◌, ◌++◌, drop, codes, decimal, ◌==◌, slice_index_or}
 use Rattle.script.specs.declared.ranges.Run.{Run}
+use Rattle.script.specs.declared.ranges.Runs.{Runs}
+use Rattle.script.specs.Lists.{parted}
 
 -- a range leaves out its upper end
 abbrev pub range : Run → List ℕ
@@ -9,8 +10,7 @@ range run = decimal run.from ++ (codes "-" ++ decimal run.to)
 
 -- ranges parted by commas, or `-` for none
 abbrev pub ranges : List Run → List ℕ
-ranges [] = codes "-"
-ranges (run ∷ more) = range run ++ flat_map (λ next. codes "," ++ range next) more
+ranges = parted range (codes "-")
 
 -- with the slot `at` before the runs: the first grows if it begins with the next slot
 abbrev pub grown : ℕ → List Run → List Run
@@ -25,6 +25,10 @@ runs_from at (held ∷ row) = cond held (grown at (runs_from (at + 1) row)) (run
 
 abbrev pub runs : List Bool → List Run
 runs row = runs_from 0 row
+
+-- those that are still to come
+abbrev pub left : Runs → List Run
+left runs = runs_from runs.at (drop runs.at runs.row.now)
 
 -- What these are, in the words of the subject: each run has a slot, and between two runs one is left out,
 abbrev pub Rising : ℕ → List Run → Type 0

@@ -1,9 +1,7 @@
 -- The first words of commands.
-use Rattle.std.specs.Prelude.{◌≡◌, ℕ, List, [], ◌∷◌, codes}
-use Rattle.script.specs.declared.marks.Mark.{Mark}
+use Rattle.std.specs.Prelude.{ℕ, List, codes}
 use Rattle.script.specs.declared.verbs.Verb.{Verb}
 use Rattle.script.specs.declared.verbs.Verb.TheVariants.{Line, Tree, Open, Enrol, Admit, Withdraw, Replan, Start, Rest, Show}
-use Rattle.script.specs.Marks.{Stand}
 
 abbrev pub verb_word : Verb → List ℕ
 verb_word Line = codes "line"
@@ -16,8 +14,3 @@ verb_word Replan = codes "replan"
 verb_word Start = codes "start"
 verb_word Rest = codes "rest"
 verb_word Show = codes "show"
-
--- the words are the verb and then those that stand at the marks
-abbrev pub Follows : List ℕ → Verb → List Mark → List (List ℕ) → Type 0
-Follows line verb marks [] = ⊥
-Follows line verb marks (first ∷ words) = (first ≡ verb_word verb) × Stand line marks words

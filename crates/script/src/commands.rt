@@ -1,16 +1,15 @@
 //! The commands of a script.
-ghost use Rattle.std.specs.Prelude.{◌≡◌, ℕ, List, [], MatchOption};
-ghost use Rattle.script.specs.Commands.{command_words, ShortCommand, IsCommand};
-ghost use Rattle.script.specs.Marks.{Stand};
-ghost use Rattle.script.specs.Verbs.{Follows};
+ghost use Rattle.std.specs.Prelude.{◌≡◌, ◌∷◌, MatchOption, ◌≢◌};
+ghost use Rattle.script.specs.Commands.{IsCommand, ShortCommand, ShortWanted, command_words, wanted_words};
+ghost use Rattle.script.specs.Verbs.{verb_word};
+ghost use Rattle.script.specs.Words.{left};
 
-use crate::arguments::{read_wanted, sole_name, verb_at};
-use crate::marks::{Mark, mark_line};
 use crate::verbs::Verb;
+use crate::words::Words;
 use labels::names::Name;
 
 /// A flow, as a command wants it: its name and number, its ends, and how many slots it needs.
-#[derive(Clone, Copy)]
+#[derive(Clone, Copy, PartialEq, Eq, Debug)]
 pub struct Wanted {
     pub name: Name,
     pub number: u16,
@@ -20,7 +19,7 @@ pub struct Wanted {
 }
 
 /// What a line of a script asks for, once the fabric and the period are known.
-#[derive(Clone, Copy)]
+#[derive(Clone, Copy, PartialEq, Eq, Debug)]
 pub enum Command {
     Enrol(Wanted),
     Admit(Wanted),
@@ -32,32 +31,35 @@ pub enum Command {
     Show,
 }
 
-// The command, where no word stands after its verb.
-fn alone(command: Command, arguments: &[Mark]) -> Option<Command>
+// The flow that the words want.
+fn read_wanted(mut words: Words<'_>) -> Option<Wanted>
     ensures { MatchOption result
-        ((line : List ℕ) → Stand line arguments.now [] → ⊥)
-        (λ found. (found ≡ command) × ((line : List ℕ) → Stand line arguments.now [])) }
+        ((flow : Wanted) → ShortWanted flow → left words.entry ≢ wanted_words flow)
+        (λ flow. ShortWanted flow × (left words.entry ≡ wanted_words flow)) }
 {
-    match arguments {
-        [] => Some(command),
-        _ => None,
-    }
+    Some(Wanted {
+        name: words.read()?,
+        number: words.read()?,
+        source: words.read()?,
+        destination: words.read()?,
+        demand: words.read_last()?,
+    })
 }
 
-// The command of a verb with its arguments.
-fn read_arguments(line: &[u8], verb: Verb, arguments: &[Mark]) -> Option<Command>
+// The command of a verb with the words after it.
+fn read_arguments(verb: Verb, words: Words<'_>) -> Option<Command>
     ensures { MatchOption result
-        ((command : Command) → ShortCommand command → Follows line.now verb arguments.now (command_words command) → ⊥)
-        (λ command. ShortCommand command × Follows line.now verb arguments.now (command_words command)) }
+        ((command : Command) → ShortCommand command → verb_word verb ∷ left words.entry ≢ command_words command)
+        (λ command. ShortCommand command × (verb_word verb ∷ left words.entry ≡ command_words command)) }
 {
     match verb {
-        Verb::Enrol => Some(Command::Enrol(read_wanted(line, arguments)?)),
-        Verb::Admit => Some(Command::Admit(read_wanted(line, arguments)?)),
-        Verb::Withdraw => Some(Command::Withdraw(sole_name(line, arguments)?)),
-        Verb::Replan => alone(Command::Replan, arguments),
-        Verb::Start => alone(Command::Start, arguments),
-        Verb::Rest => alone(Command::Rest, arguments),
-        Verb::Show => alone(Command::Show, arguments),
+        Verb::Enrol => read_wanted(words).map(Command::Enrol),
+        Verb::Admit => read_wanted(words).map(Command::Admit),
+        Verb::Withdraw => words.read_last().map(Command::Withdraw),
+        Verb::Replan => words.none_left().then_some(Command::Replan),
+        Verb::Start => words.none_left().then_some(Command::Start),
+        Verb::Rest => words.none_left().then_some(Command::Rest),
+        Verb::Show => words.none_left().then_some(Command::Show),
         Verb::Line | Verb::Tree | Verb::Open => None,
     }
 }
@@ -68,9 +70,6 @@ pub fn read_command(line: &[u8]) -> Option<Command>
         ((command : Command) → IsCommand line.now command → ⊥)
         (IsCommand line.now) }
 {
-    let marks = mark_line(line)?;
-    match marks.as_slice() {
-        [first, rest @ ..] => read_arguments(line, verb_at(line, *first)?, rest),
-        [] => None,
-    }
+    let mut words = Words::new(line);
+    read_arguments(words.read()?, words)
 }

@@ -4,22 +4,16 @@ ghost use Rattle.script.specs.Lines.{LinesStand};
 ghost use Rattle.script.specs.Ranges.{RunsStand};
 
 /// Every script is lines, in one way.
-pub fn lines_stand() -> u8
+pub fn lines_stand()
     ensures { LinesStand }
-{
-    0
-}
+{}
 
 /// The runs of a row are its maximal runs of held slots, and nothing else is.
-pub fn runs_stand() -> u8
+pub fn runs_stand()
     ensures { RunsStand }
-{
-    0
-}
+{}
 
 /// The members of a row are the numbers that it holds, ascending, and nothing else is.
-pub fn members_stand() -> u8
+pub fn members_stand()
     ensures { MembersStand }
-{
-    0
-}
+{}

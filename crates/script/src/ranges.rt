@@ -1,8 +1,9 @@
 //! The slots of a flow, as an answer tells them: ranges, each without its upper end.
-ghost use Rattle.std.specs.Prelude.{◌≡◌, ◌<◌, ◌≤◌, [], ◌∷◌, length, drop, Some, MatchOption};
-ghost use Rattle.script.specs.Ranges.{runs_from, runs, range, ranges};
+ghost use Rattle.std.specs.Prelude.{◌≡◌, ℕ, ◌<◌, ◌≤◌, false, length, All, Some, MatchOption, ◌≢◌, slice_index_or, ⊤};
+ghost use Rattle.std.specs.Iterator.{YieldsFirst, item_count};
+ghost use Rattle.script.specs.Ranges.{left, runs, range, ranges};
 
-use crate::rows::next_place;
+use crate::lists::write_parted;
 use std::fmt;
 
 // A run of slots that are held, from the first up to the one after the last.
@@ -16,27 +17,55 @@ impl fmt::Display for Run {
     ghost output = { λ run. Some (range run) };
 
     fn fmt<W: fmt::Write>(&self, f: &mut fmt::Formatter<W>) -> fmt::Result {
-        let from = self.from;
-        let to = self.to;
-        write!(f, "{from}-{to}")
+        write!(f, "{}-{}", self.from, self.to)
     }
 }
 
-// The first run of the row from a place on.
-fn next_run(row: &[bool], at: usize) -> Option<Run>
-    requires { at ≤ length row.now }
-    ensures { MatchOption result
-        (runs_from at (drop at row.now) ≡ [])
-        (λ run. (runs_from at (drop at row.now) ≡ run ∷ runs_from run.to (drop run.to row.now)) × (at < run.to) × (run.to ≤ length row.now)) }
-{
-    let from = next_place(row, at, true);
-    if from == row.len() {
-        return None;
+// The runs of a row from a place on.
+#[derive(Drop)]
+struct Runs<'a> {
+    row: &'a [bool],
+    at: usize,
+}
+
+impl Iterator for Runs<'_> {
+    type Item = Run;
+
+    ghost can_next = { λ runs. ⊤ };
+
+    ghost next_gives = { YieldsFirst left };
+
+    ghost remaining = { item_count left };
+
+    fn next(&mut self) -> Option<Run> {
+        let from = next_place(self.row, self.at, true)?;
+        let to = next_place(self.row, from, false).unwrap_or(self.row.len());
+        self.at = to;
+        Some(Run { from, to })
     }
-    Some(Run {
-        from,
-        to: next_place(row, from, false),
-    })
+}
+
+// The first place of the row that is held, or that is not.
+fn first_place(row: &[bool], held: bool) -> Option<usize>
+    ensures { MatchOption result
+        (All (λ slot. slot ≢ held) row.now)
+        (λ place. (place < length row.now)
+        × ((k : ℕ) → k < place → slice_index_or row.now k false ≢ held)
+        × (slice_index_or row.now place false ≡ held)) }
+{
+    row.iter().position(|slot| *slot == held)
+}
+
+// The same from a place on.
+fn next_place(row: &[bool], from: usize, held: bool) -> Option<usize>
+    ensures { MatchOption result
+        ((k : ℕ) → from ≤ k → k < length row.now → slice_index_or row.now k false ≢ held)
+        (λ place. (from ≤ place) × (place < length row.now)
+        × ((k : ℕ) → from ≤ k → k < place → slice_index_or row.now k false ≢ held)
+        × (slice_index_or row.now place false ≡ held)) }
+{
+    let ahead = first_place(row.get(from..)?, held)?;
+    Some(from + ahead)
 }
 
 /// The slots that the row holds, as `0-3,7-8`; `-` where it holds none.
@@ -47,16 +76,7 @@ impl fmt::Display for Ranges<'_> {
     ghost output = { λ slots. Some (ranges (runs slots.0.now)) };
 
     fn fmt<W: fmt::Write>(&self, f: &mut fmt::Formatter<W>) -> fmt::Result {
-        let row = self.0;
-        let Some(first) = next_run(row, 0) else {
-            return write!(f, "-");
-        };
-        write!(f, "{first}")?;
-        let mut at = first.to;
-        while let Some(run) = next_run(row, at) {
-            write!(f, ",{run}")?;
-            at = run.to;
-        }
-        Ok(())
+        let runs = Runs { row: self.0, at: 0 };
+        write_parted(f, runs, "-")
     }
 }

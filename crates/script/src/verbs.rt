@@ -1,6 +1,8 @@
 //! The first words of commands.
-ghost use Rattle.std.specs.Prelude.{◌≡◌, MatchOption, ◌≢◌};
+ghost use Rattle.std.specs.Prelude.{⊤};
 ghost use Rattle.script.specs.Verbs.{verb_word};
+
+use crate::arguments::Argument;
 
 /// What a line asks for.
 #[derive(Clone, Copy)]
@@ -17,24 +19,25 @@ pub(crate) enum Verb {
     Show,
 }
 
-/// The verb that the word spells.
-pub(crate) fn read_verb(word: &[u8]) -> Option<Verb>
-    ensures { MatchOption result ((verb : Verb) → word.now ≢ verb_word verb) (λ verb. word.now ≡ verb_word verb) }
-{
-    let Ok(text) = std::str::from_utf8(word) else {
-        return None;
-    };
-    match text {
-        "line" => Some(Verb::Line),
-        "tree" => Some(Verb::Tree),
-        "open" => Some(Verb::Open),
-        "enrol" => Some(Verb::Enrol),
-        "admit" => Some(Verb::Admit),
-        "withdraw" => Some(Verb::Withdraw),
-        "replan" => Some(Verb::Replan),
-        "start" => Some(Verb::Start),
-        "rest" => Some(Verb::Rest),
-        "show" => Some(Verb::Show),
-        _ => None,
+impl Argument for Verb {
+    ghost allowed = { λ verb. ⊤ };
+
+    ghost spelling = { verb_word };
+
+    fn read(word: &[u8]) -> Option<Verb> {
+        let verb = match word {
+            b"line" => Verb::Line,
+            b"tree" => Verb::Tree,
+            b"open" => Verb::Open,
+            b"enrol" => Verb::Enrol,
+            b"admit" => Verb::Admit,
+            b"withdraw" => Verb::Withdraw,
+            b"replan" => Verb::Replan,
+            b"start" => Verb::Start,
+            b"rest" => Verb::Rest,
+            b"show" => Verb::Show,
+            _ => return None,
+        };
+        Some(verb)
     }
 }

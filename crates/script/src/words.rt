@@ -1,62 +1,65 @@
-//! The words of a script: names and numbers.
-ghost use Rattle.std.specs.Prelude.{◌≡◌, decimal, MatchOption};
-ghost use Rattle.script.specs.Words.{IsNumber, IsWord, OfKind, word_bytes, word_kind};
+//! The words of a line: the parts between its spaces.
+ghost use Rattle.std.specs.Prelude.{◌≡◌, ℕ, List, [], ◌∷◌, MatchBool, MatchOption, ◌≢◌, ⊤};
+ghost use Rattle.std.specs.Iterator.{YieldsFirstRef, item_count};
+ghost use Rattle.script.specs.Words.{left, parts};
 
-use labels::names::Name;
+use crate::arguments::Argument;
+use crate::cuts::cut;
 
-/// What a word is.
-#[derive(Clone, Copy)]
-pub(crate) enum Kind {
-    Name,
-    Number,
+/// The words of a line that are still to come.
+#[derive(Drop)]
+pub(crate) struct Words<'a> {
+    // nothing is left after the last word; after a space there is always a word, perhaps of no bytes
+    rest: Option<&'a [u8]>,
 }
 
-/// A word: a name, which is a part of the script, or a number.
-#[derive(Clone, Copy)]
-pub(crate) enum Word<'a> {
-    Name(&'a [u8]),
-    Number(u16),
-}
-
-/// The number that the bytes spell: decimal, 0 to 65535, one spelling for each number.
-pub(crate) fn read_number(bytes: &[u8]) -> Option<u16>
-    ensures { MatchOption result (IsNumber bytes.now → ⊥) (λ n. bytes.now ≡ decimal n) }
-{
-    // `parse` also takes a sign and leading zeros, which would give one number many spellings
-    if bytes.len() > 1 && bytes[0] < b'1' {
-        return None;
+impl<'a> Words<'a> {
+    /// Those of the whole line.
+    pub(crate) fn new(line: &'a [u8]) -> Words<'a>
+        ensures { left result ≡ parts line.now }
+    {
+        Words { rest: Some(line) }
     }
-    match std::str::from_utf8(bytes) {
-        Ok(text) => text.parse::<u16>().ok(),
-        Err(_) => None,
+
+    /// The value that the next word spells.
+    pub(crate) fn read<A: Argument>(&mut self) -> Option<A>
+        ensures { MatchOption result
+            ((value : A) → A.allowed value → (more : List (List ℕ)) → left self.old ≢ A.spelling value ∷ more)
+            (λ value. A.allowed value × (left self.old ≡ A.spelling value ∷ left self.new)) }
+    {
+        A::read(self.next()?)
+    }
+
+    /// The value that the next word spells, where it is the last.
+    pub(crate) fn read_last<A: Argument>(mut self) -> Option<A>
+        ensures { MatchOption result
+            ((value : A) → A.allowed value → left self.entry ≢ A.spelling value ∷ [])
+            (λ value. A.allowed value × (left self.entry ≡ A.spelling value ∷ [])) }
+    {
+        let value = self.read()?;
+        self.none_left().then_some(value)
+    }
+
+    /// Whether no word is left.
+    pub(crate) fn none_left(&self) -> bool
+        ensures { MatchBool result (left self.now ≡ []) (left self.now ≢ []) }
+    {
+        self.rest.is_none()
     }
 }
 
-/// The word of the kind that the bytes spell; none where they spell none of that kind.
-pub(crate) fn read_word<'a>(bytes: &'a [u8], kind: Kind) -> Option<Word<'a>>
-    ensures { MatchOption result (OfKind kind bytes.now → ⊥) (λ word. OfKind kind bytes.now × (word_kind word ≡ kind) × (word_bytes word ≡ bytes.now)) }
-{
-    match kind {
-        Kind::Name => match Name::new(bytes) {
-            Some(_) => Some(Word::Name(bytes)),
-            None => None,
-        },
-        Kind::Number => match read_number(bytes) {
-            Some(number) => Some(Word::Number(number)),
-            None => None,
-        },
-    }
-}
+impl<'a> Iterator for Words<'a> {
+    type Item = &'a [u8];
 
-/// The kind of the word that the bytes spell; none where they spell no word.
-pub(crate) fn kind_of(bytes: &[u8]) -> Option<Kind>
-    ensures { MatchOption result (IsWord bytes.now → ⊥) (λ kind. OfKind kind bytes.now) }
-{
-    if Name::new(bytes).is_some() {
-        Some(Kind::Name)
-    } else if read_number(bytes).is_some() {
-        Some(Kind::Number)
-    } else {
-        None
+    ghost can_next = { λ words. ⊤ };
+
+    ghost next_gives = { YieldsFirstRef left };
+
+    ghost remaining = { item_count left };
+
+    fn next(&mut self) -> Option<&'a [u8]> {
+        let (word, rest) = cut(self.rest?, b' ');
+        self.rest = rest;
+        Some(word)
     }
 }

@@ -1,15 +1,39 @@
 //! How the description of a fabric is read.
-ghost use Rattle.std.specs.Prelude.{◌≡◌, ℕ, ◌≤◌, List, ◌∷◌, length, MatchOption};
-ghost use Rattle.script.specs.Marks.{After};
+ghost use Rattle.std.specs.Prelude.{◌≡◌, ℕ, ◌<◌, List, [], ◌∷◌, ◌++◌, length, MatchOption};
 ghost use Rattle.script.specs.Descriptions.{held, Described, IsDescription};
 ghost use Rattle.script.specs.Verbs.{verb_word};
+ghost use Rattle.script.specs.Words.{left};
 
-use crate::arguments::{number_at, sole_number, verb_at};
+use crate::arguments::Argument;
 use crate::descriptions::{Description, Parents};
-use crate::marks::{Beyond, Mark, mark_line};
 use crate::verbs::Verb;
+use crate::words::Words;
 
 impl Parents {
+    // Of no terminal.
+    fn none() -> Parents
+        ensures { held result ≡ [] }
+    {
+        Parents {
+            room: [0; 127],
+            count: 0,
+        }
+    }
+
+    // With the parent of the next terminal, if there is room.
+    fn and(mut self, parent: u16) -> Option<Parents>
+        ensures { MatchOption result
+            (126 < length (held self))
+            (λ longer. held longer ≡ held self ++ parent ∷ []) }
+    {
+        if self.count == self.room.len() {
+            return None;
+        }
+        self.room[self.count] = parent;
+        self.count += 1;
+        Some(self)
+    }
+
     /// The parents of terminals 1, 2 and so on.
     pub fn as_slice(&self) -> &[u16]
         ensures { result.now ≡ held self.now }
@@ -18,35 +42,30 @@ impl Parents {
     }
 }
 
-// The tree whose parents are the arguments, with those past the marks.
-fn read_tree(line: &[u8], arguments: &[Mark], beyond: Beyond) -> Option<Description>
-    requires { length arguments.now ≤ 127 }
+// The tree whose parents are the words.
+fn read_tree(words: Words<'_>) -> Option<Description>
     ensures { MatchOption result
-        ((words : List (List ℕ)) → After line.now arguments.now beyond words → (tree : Description) → Described tree (verb_word Verb.Tree ∷ words) → ⊥)
-        (λ tree. (words : List (List ℕ)) → After line.now arguments.now beyond words → Described tree (verb_word Verb.Tree ∷ words)) }
+        ((tree : Description) → Described tree (verb_word Verb.Tree ∷ left words.entry) → ⊥)
+        (λ tree. Described tree (verb_word Verb.Tree ∷ left words.entry)) }
 {
-    let mut room = [0; 127];
-    for (at, mark) in arguments.iter().enumerate() {
-        room[at] = number_at(line, *mark)?;
+    // none where there are too many to keep
+    let mut parents = Some(Parents::none());
+    for word in words {
+        let parent = u16::read(word)?;
+        parents = parents.and_then(|kept| kept.and(parent));
     }
-    let count = arguments.len();
-    match beyond {
-        Beyond::Nothing => Some(Description::Tree(Parents { room, count })),
-        Beyond::Numbers => Some(Description::LongTree),
-        Beyond::Names => None,
-    }
+    Some(parents.map_or(Description::LongTree, Description::Tree))
 }
 
-// The fabric of a verb with its arguments.
-fn read_fabric(line: &[u8], verb: Verb, arguments: &[Mark], beyond: Beyond) -> Option<Description>
-    requires { length arguments.now ≤ 127 }
+// The fabric of a verb with the words after it.
+fn read_fabric(verb: Verb, words: Words<'_>) -> Option<Description>
     ensures { MatchOption result
-        ((words : List (List ℕ)) → After line.now arguments.now beyond words → (fabric : Description) → Described fabric (verb_word verb ∷ words) → ⊥)
-        (λ fabric. (words : List (List ℕ)) → After line.now arguments.now beyond words → Described fabric (verb_word verb ∷ words)) }
+        ((fabric : Description) → Described fabric (verb_word verb ∷ left words.entry) → ⊥)
+        (λ fabric. Described fabric (verb_word verb ∷ left words.entry)) }
 {
     match verb {
-        Verb::Line => Some(Description::Line(sole_number(line, arguments)?)),
-        Verb::Tree => read_tree(line, arguments, beyond),
+        Verb::Line => words.read_last().map(Description::Line),
+        Verb::Tree => read_tree(words),
         _ => None,
     }
 }
@@ -57,9 +76,6 @@ pub fn read_description(line: &[u8]) -> Option<Description>
         ((fabric : Description) → IsDescription line.now fabric → ⊥)
         (IsDescription line.now) }
 {
-    let marks = mark_line(line)?;
-    match marks.as_slice() {
-        [first, rest @ ..] => read_fabric(line, verb_at(line, *first)?, rest, marks.beyond()),
-        [] => None,
-    }
+    let mut words = Words::new(line);
+    read_fabric(words.read()?, words)
 }

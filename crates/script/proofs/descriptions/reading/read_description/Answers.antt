@@ -1,24 +1,18 @@
-use Rattle.std.proofs.Common.{arith, rules, ltb-false}
-use Rattle.script.proofs.DescriptionWords.{spelled, none_without_verb, described, none_described}
-use Rattle.script.proofs.MarkLists.{cases_weaker}
+use Rattle.std.proofs.Common.{sym, ◌∙◌, subst}
+use Rattle.script.specs.Descriptions.{Described}
+use Rattle.script.proofs.DescriptionWords.{formed, description_parts, described_parts}
+use Rattle.script.proofs.PartLists.{cases_weaker}
 use Rattle.script.proofs.descriptions.reading.read_description.Goals as goal
 
-pub returns-in_err-marks : goal.returns-in_err-marks
-returns-in_err-marks c =
-    rw c.from_residual.ensures (λ fabric is. c.in_err-marks.ensures _ (spelled _ fabric is).2)
+pub returns-in_err-read : goal.returns-in_err-read
+returns-in_err-read c =
+    rw c.from_residual.ensures (λ fabric is.
+    let form = formed fabric _ (description_parts _ fabric is) in
+    c.in_err-read.ensures form.verb tt form.others (c.new-words.ensures ∙ form.first))
 
-pub returns-in_err-verb_at-in-len1-up : goal.returns-in_err-verb_at-in-len1-up
-returns-in_err-verb_at-in-len1-up c =
-    let marked = c.in_ok-marks.ensures in
-    rw c.from_residual-in_err-verb_at-in-len1-up.ensures
-    (none_without_verb _ _ _ _ _ marked.1 marked.2 c.as_slice.ensures (omega (arith, ltb-false)) c.in_err-verb_at-in-len1-up.ensures)
-
-pub returns-in_ok-verb_at-in-len1-up : goal.returns-in_ok-verb_at-in-len1-up
-returns-in_ok-verb_at-in-len1-up c =
-    let marked = c.in_ok-marks.ensures in
-    let here = c.in_ok-verb_at-in-len1-up.ensures in
-    cases_weaker
-    c.read_fabric.result
-    c.read_fabric.ensures
-    (λ none. none_described _ _ _ _ _ marked.1 marked.2 c.as_slice.ensures (omega (arith, ltb-false)) _ here _ c.beyond.ensures (search rules))
-    (λ fabric reads. described _ _ _ _ _ marked.1 marked.2 c.as_slice.ensures (omega (arith, ltb-false)) _ here _ c.beyond.ensures fabric (search rules))
+pub returns : goal.returns
+returns c =
+    let whole = sym c.new-words.ensures ∙ c.in_ok-read.ensures.1 in
+    cases_weaker c.read_fabric.result c.read_fabric.ensures
+    (λ none fabric is. none fabric (subst (Described fabric) whole (description_parts _ fabric is)))
+    (λ fabric told. described_parts _ fabric (subst (Described fabric) (sym whole) told))

@@ -1,29 +1,12 @@
-use Rattle.std.proofs.Common.{[], ◌∷◌, ◌++◌, codes, decimal, sym, refl, ap, ◌∙◌, append_assoc, append-nil, arith}
-use Rattle.std.proofs.Output.{has_written_append, has_written_of_eq}
-use Rattle.std.proofs.lemmas.List.{flat_map_more}
-use Rattle.script.specs.Groups.{commas}
+use Rattle.std.proofs.Common.{decimal, refl, rules}
+use Rattle.std.proofs.lemmas.Iterator.{YieldsList-from_slice}
+use Rattle.std.proofs.lemmas.Iterator.Consumers.{YieldsList-at, YieldsList-from_enumerate, YieldsList-from_filter_map}
+use Rattle.script.proofs.ItemLists.{by_chain}
+use Rattle.script.proofs.MemberLists.{number_held, members_are}
 use Rattle.script.proofs.groups.GroupDisplay.fmt.Goals as goal
-
-pub loop-number-preserved : goal.loop-number-preserved
-loop-number-preserved g c =
-    let old = c.loop-number.invariant.1 in
-    let next = c.in-Some-next_member.ensures in
-    let number = c.in-Some-next_member.number in (
-      omega (arith, next.2),
-      (
-        old.0 ++ number ∷ [],
-        old.1 ∙ ap (λ l. old.0 ++ l) next.0 ∙ sym (append_assoc old.0 (number ∷ []) _),
-        λ plain.
-            let before = old.2 plain in
-            let more = c.in_ok-write-2.ensures.writes before.plain refl in
-            has_written_of_eq _ _ _ _ _ (flat_map_more (λ n. codes "," ++ decimal n) [] old.0 number) (has_written_append _ _ _ _ _ _ before more),
-      ),
-    )
 
 pub returns-clause-writes : goal.returns-clause-writes
 returns-clause-writes g c =
-    λ plain ok.
-    let told = c.loop-number.invariant.1 in
-    let rest = told.1 ∙ ap (λ l. told.0 ++ l) c.in_default-next_member.ensures ∙ append-nil told.0 in
-    let first = c.in_ok-write.ensures.writes plain refl in
-    has_written_of_eq _ _ _ _ _ (sym (ap commas (c.in-Some.ensures.0 ∙ ap (λ l. c.in-Some.first ∷ l) rest))) (has_written_append _ _ _ _ _ _ first (told.2 first.plain))
+    let row = c.args.self.now.0.now in
+    rw (members_are 0 row) at (by_chain (λ all yields. c.write_parted.ensures all decimal yields (λ n. refl)) _
+    (YieldsList-from_filter_map _ number_held (YieldsList-at c.filter_map-members.ensures.source (YieldsList-from_enumerate (YieldsList-at c.enumerate-row.ensures.source (YieldsList-from_slice row (cc))) (cc))) c.filter_map-members.ensures.closure (λ x r q k. search rules)))

@@ -1,5 +1,5 @@
-pub mod TreeFills
 pub mod RouteRefused
 pub mod RouteSteps
 pub mod RouteAnswers
 pub mod RouteLinks
+pub mod RouteLinksKept

@@ -3,14 +3,14 @@ use Rattle.std.proofs.Common.{◌≡◌, ℕ, ◌+◌, ◌<◌, ◌≤◌, List,
 use Rattle.std.specs.List.{flat_map}
 use Rattle.fabric.specs.declared.faults.FabricFault.{FabricFault}
 use Rattle.fabric.specs.RouteLists.{LawfulRoutes, Accepted, AcceptedWith, encode_route}
-use Rattle.fabric.specs.RouteReading.{next_at, routes_from, decoded, first_routes, first_end}
+use Rattle.fabric.specs.RouteReading.{routes_from, decoded, first_routes, first_end}
 use Rattle.fabric.specs.RouteRefusals.{HeaderRule, Kept, Reached, RefusedAt, RefusedBy, stated_terminals, stated_links, stated_routes}
 use Rattle.fabric.specs.RouteChecking.{HeaderRead, HeaderBroken, RouteBroken}
 use Rattle.fabric.specs.RouteBytes.{drop_routes, length_routes}
 use Rattle.fabric.specs.RouteLaws.{lawful_push}
 use Rattle.fabric.specs.RouteAccepted.{accepted_from}
 use Rattle.fabric.proofs.RouteRefused.{kept_lawful, refused_not_accepted}
-use Rattle.fabric.proofs.RouteSteps.{first_end_more, first_routes_more}
+use Rattle.fabric.proofs.RouteSteps.{first_routes_more}
 
 -- no route is lawful
 pub none_lawful : (t l : ℕ) (bs : List ℕ) → LawfulRoutes t l (first_routes bs 0)
@@ -18,13 +18,10 @@ unfolding routes_from
 none_lawful t l bs = record { each = tt; distinct = tt }
 
 -- and so is one more whose bytes all keep their rules
-pub more_lawful : (bs : List ℕ) (n at end : ℕ) → at ≡ first_end bs n → LawfulRoutes (stated_terminals bs) (stated_links bs) (first_routes bs n) → end ≡ next_at bs at → ((k : ℕ) → k < 3 + get_or bs (at + 2) 0 → Kept bs (first_routes bs n) at k) → (end ≡ first_end bs (n + 1)) × (end ≤ length bs) × LawfulRoutes (stated_terminals bs) (stated_links bs) (first_routes bs (n + 1))
-more_lawful bs n at end e ok size kept =
-    let one = kept_lawful bs (first_routes bs n) at kept in (
-      size ∙ first_end_more bs n at e,
-      omega (arith, one.0),
-      rw (first_routes_more bs n at e) (lawful_push _ _ (first_routes bs n) _ ok one.1 one.2),
-    )
+pub more_lawful : (bs : List ℕ) (n at : ℕ) → at ≡ first_end bs n → LawfulRoutes (stated_terminals bs) (stated_links bs) (first_routes bs n) → ((k : ℕ) → k < 3 + get_or bs (at + 2) 0 → Kept bs (first_routes bs n) at k) → LawfulRoutes (stated_terminals bs) (stated_links bs) (first_routes bs (n + 1))
+more_lawful bs n at e ok kept =
+    let one = kept_lawful bs (first_routes bs n) at kept in
+    rw (first_routes_more bs n at e) (lawful_push _ _ (first_routes bs n) _ ok one.1 one.2)
 
 pub reached_first : (bs : List ℕ) (n at : ℕ) → ((k : ℕ) → k < 4 → HeaderRule bs k) → at ≡ first_end bs n → at ≤ length bs → LawfulRoutes (stated_terminals bs) (stated_links bs) (first_routes bs n) → Reached bs (first_routes bs n) at
 reached_first bs n at header e within ok =

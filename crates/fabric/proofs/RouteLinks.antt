@@ -1,41 +1,60 @@
--- The links of a found route, as a part of the bytes.
-use Rattle.std.proofs.Common.{◌≡◌, ℕ, zero, suc, ◌+◌, ◌-◌, ◌<◌, ◌≤◌, true, false, eqb, List, [], ◌∷◌, ◌++◌, length, get_or, take, drop, sym, refl, ap, ◌∙◌, subst, arith}
-use Rattle.std.proofs.lemmas.List.{take_more}
-use Rattle.std.proofs.lemmas.Bool.{or_from, or_left, or_right, or_parts, ne_eqb, eq-eqb}
+-- The links of a pair's route, and what it crosses.
+use Rattle.std.proofs.Common.{◌≡◌, ap, ℕ, Bool, true, false, ◌&&◌, ◌||◌, cond, List, [], ◌∷◌, Option, None, Some, MatchOption, refl, subst, sym, ◌∙◌}
+use Rattle.std.proofs.lemmas.Bool.{or_from, or_parts, and_left}
+use Rattle.std.specs.List.{find}
+use Rattle.std.specs.Option.{is_some, option_map, option_map_or}
 use Rattle.fabric.specs.declared.pairs.Pair.{Pair}
-use Rattle.fabric.specs.RouteLists.{Accepted, among, some_crosses, Distinct}
-use Rattle.fabric.specs.RouteReading.{route_at, first_routes, first_end, Found}
-use Rattle.fabric.specs.RouteRefusals.{stated_routes}
-use Rattle.fabric.specs.RouteBytes.{routes_split, next_within}
-use Rattle.fabric.specs.RouteLaws.{crosses_one}
-use Rattle.fabric.specs.RouteKept.{kept_lawful, kept_whole}
+use Rattle.fabric.specs.RouteLists.{Route, Distinct, ends, joins, among, some_joins, some_crosses}
+use Rattle.fabric.specs.RouteReading.{links_of}
+use Rattle.fabric.specs.RouteLaws.{joins_ends}
 
-among_push : (k x : ℕ) (xs : List ℕ) → among k xs ≡ false → (x ≡ k → ⊥) → among k (xs ++ x ∷ []) ≡ false
-among_push k x [] none apart = or_from (eqb x k) false (ne_eqb x k apart) refl
-among_push k x (y ∷ ys) none apart =
-    let parts = or_parts (eqb y k) (among k ys) none in
-    or_from (eqb y k) (among k (ys ++ x ∷ [])) parts.0 (among_push k x ys parts.1 apart)
+crosses_none : (rs : List Route) (p : Pair) (k : ℕ) → some_joins rs p ≡ false → some_crosses rs p k ≡ false
+crosses_none [] p k e = refl
+crosses_none (r ∷ rs) p k e =
+    let parts = or_parts (joins r p) (some_joins rs p) e in
+    or_from (joins r p && among k r.links) (some_crosses rs p k) (and_left _ (among k r.links) parts.0) (crosses_none rs p k parts.1)
 
--- one more byte that is not the link, and one that is
-pub among_more : (k : ℕ) (xs : List ℕ) (i : ℕ) → i < length xs → among k (take i xs) ≡ false → (get_or xs i 0 ≡ k → ⊥) → among k (take (i + 1) xs) ≡ false
-among_more k xs i h none apart = rw (take_more xs i 0 h) (among_push k (get_or xs i 0) (take i xs) none apart)
+-- the pair's route is the first, or one of the others
+crosses_first : (b others : Bool) (r : Route) (found : Option Route) (k : ℕ) → (b ≡ true → others ≡ false) → (b ≡ false → others ≡ option_map_or (among k) (option_map (λ x. x.links) found) false) → ((b && among k r.links) || others) ≡ option_map_or (among k) (option_map (λ x. x.links) (cond b (Some r) found)) false
+crosses_first true others r found k none more = rw (none refl) (or_false (among k r.links))
+  where
+    or_false : (b : Bool) → (b || false) ≡ b
+    or_false true = refl
+    or_false false = refl
+crosses_first false others r found k none more = more refl
 
-pub among_hit : (k : ℕ) (xs : List ℕ) (i : ℕ) → i < length xs → get_or xs i 0 ≡ k → among k xs ≡ true
-among_hit k [] i h e = let z : ⊥ = omega arith in absurd z
-among_hit k (x ∷ xs) zero h e = or_left (eqb x k) (among k xs) (eq-eqb x k e)
-among_hit k (x ∷ xs) (suc i) h e = or_right (eqb x k) (among k xs) (among_hit k xs i (omega arith) e)
+joins_first : (b others : Bool) (r : Route) (found : Option Route) → is_some (option_map (λ x. x.links) found) ≡ others → is_some (option_map (λ x. x.links) (cond b (Some r) found)) ≡ (b || others)
+joins_first true others r found more = refl
+joins_first false others r found more = more
 
--- the links of a found route are within the bytes
-pub found_within : (bs : List ℕ) (p : Pair) (from count : ℕ) → ∥ Accepted bs ∥₁ → Found bs (stated_routes bs) p from count → from + count ≤ length bs
-found_within bs p from count kept f =
-    omega (arith, f.from_is, f.count_is, next_within bs f.index (stated_routes bs) f.index_below (omega (arith, kept_whole bs kept)))
+-- a pair's route crosses its links
+crosses_links : (rs : List Route) (p : Pair) (k : ℕ) → Distinct rs → some_crosses rs p k ≡ option_map_or (among k) (links_of rs p) false
+crosses_links [] p k d = refl
+crosses_links (r ∷ rs) p k d =
+    crosses_first (joins r p) (some_crosses rs p k) r (find (λ x. joins x p) rs) k
+    (λ here.
+    let at = joins_ends r p here in
+    let same : ends r ≡ p = λ i. record { source = at.0 i; destination = at.1 i } in
+    crosses_none rs p k (subst (λ q. some_joins rs q ≡ false) same d.0))
+    (λ _. crosses_links rs p k d.1)
 
--- and the pair's route crosses just those
-pub found_crosses : (bs : List ℕ) (p : Pair) (from count k : ℕ) → ∥ Accepted bs ∥₁ → Found bs (stated_routes bs) p from count → some_crosses (first_routes bs (stated_routes bs)) p k ≡ among k (take (from + count - from) (drop from bs))
-found_crosses bs p from count k kept f =
-    let at = first_end bs f.index in
-    let s = routes_split bs f.index (stated_routes bs) 7 f.index_below in
-    let apart = subst Distinct s.1 (kept_lawful bs kept).routes_lawful.distinct in
-    let one = crosses_one (first_routes bs f.index) s.0 (route_at bs at) p k apart f.none_before f.is_pair in
-    let size : from + count - from ≡ get_or bs (at + 2) 0 = omega (arith, f.count_is) in
-    ap (λ rs. some_crosses rs p k) s.1 ∙ one ∙ sym (rw (size, f.from_is))
+joins_links : (rs : List Route) (p : Pair) → is_some (links_of rs p) ≡ some_joins rs p
+joins_links [] p = refl
+joins_links (r ∷ rs) p = joins_first (joins r p) (some_joins rs p) r (find (λ x. joins x p) rs) (joins_links rs p)
+
+module _ {A : Type 0} (view : A → List ℕ) where
+  -- the same of links that a view reads
+  some_view : (o : Option A) → is_some o ≡ is_some (option_map view o)
+  some_view None = refl
+  some_view (Some x) = refl
+
+  pub found_joins : (o : Option A) (rs : List Route) (p : Pair) → option_map view o ≡ links_of rs p → is_some o ≡ some_joins rs p
+  found_joins o rs p e = some_view o ∙ ap is_some e ∙ joins_links rs p
+
+  pub found_crosses : (o : Option A) (rs : List Route) (p : Pair) (k : ℕ) (r : Bool) (Called : A → Type 0) → option_map view o ≡ links_of rs p → Distinct rs → MatchOption o (r ≡ false) Called → ((x : A) → Called x → r ≡ among k (view x)) → r ≡ some_crosses rs p k
+  found_crosses o rs p k r Called e d called each =
+      go o called ∙ ap (λ found. option_map_or (among k) found false) e ∙ sym (crosses_links rs p k d)
+    where
+      go : (o : Option A) → MatchOption o (r ≡ false) Called → r ≡ option_map_or (among k) (option_map view o) false
+      go None none = none
+      go (Some x) some = each x some

@@ -1,6 +1,6 @@
 -- What lawful routes give: the laws of a fabric, one more route at the end, and the one route of a pair.
 use Rattle.std.proofs.Common.{◌≡◌, ℕ, ◌<◌, ◌≤◌, Bool, true, false, ◌&&◌, ◌||◌, eqb, List, [], ◌∷◌, ◌++◌, length, sym, refl, ap, ◌∙◌, subst, ⊎_elim, arith}
-use Rattle.std.proofs.lemmas.Bool.{or_cases, or_parts, or_from, or_left, or_right, and_parts, and_left, and_from, eqb-true, eq-eqb, true≢false}
+use Rattle.std.proofs.lemmas.Bool.{or_cases, or_parts, or_from, or_left, or_right, and_parts, and_from, eqb-true, eq-eqb, true≢false}
 use Rattle.std.proofs.lemmas.Bool.Decides.{nat_tests}
 use Rattle.std.proofs.ByRecursion.{All-push}
 use Rattle.std.specs.List.{AllByRecursion}
@@ -15,15 +15,6 @@ or_false false = refl
 or_assoc : (a b c : Bool) → (a || (b || c)) ≡ ((a || b) || c)
 or_assoc true b c = refl
 or_assoc false b c = refl
-
-chosen : (b c d : Bool) → b ≡ true → d ≡ false → ((b && c) || d) ≡ c
-chosen true true d e f = refl
-chosen true false d e f = f
-chosen false c d e f = absurd (true≢false (sym e))
-
-passed : (b x c d : Bool) → b ≡ false → d ≡ c → ((b && x) || d) ≡ c
-passed true x c d e f = absurd (true≢false e)
-passed false x c d e f = f
 
 -- the route of a pair, with what holds of each route
 pub one_joins : (P : Route → Type 0) (rs : List Route) (p : Pair) → AllByRecursion P rs → some_joins rs p ≡ true → (r : Route) × P r × (joins r p ≡ true)
@@ -140,21 +131,3 @@ all_middle P (x ∷ rs) more r all = all_middle P rs more r all.1
 pub lawful_middle : (t l : ℕ) (rs more : List Route) (r : Route) → LawfulRoutes t l (rs ++ r ∷ more) → LawfulRoute t l r × (some_joins rs (ends r) ≡ false)
 lawful_middle t l rs more r ok =
     (all_middle (LawfulRoute t l) rs more r ok.each, distinct_middle rs more r ok.distinct)
-
--- what the one route of a pair crosses
-pub crosses_none : (rs : List Route) (p : Pair) (k : ℕ) → some_joins rs p ≡ false → some_crosses rs p k ≡ false
-crosses_none [] p k e = refl
-crosses_none (r ∷ rs) p k e =
-    let parts = or_parts (joins r p) (some_joins rs p) e in
-    or_from (joins r p && among k r.links) (some_crosses rs p k) (and_left _ (among k r.links) parts.0) (crosses_none rs p k parts.1)
-
-pub crosses_one : (rs more : List Route) (r : Route) (p : Pair) (k : ℕ) → Distinct (rs ++ r ∷ more) → some_joins rs p ≡ false → joins r p ≡ true → some_crosses (rs ++ r ∷ more) p k ≡ among k r.links
-crosses_one [] more r p k d none here =
-    let at = joins_ends r p here in
-    let same : ends r ≡ p = λ i. record { source = at.0 i; destination = at.1 i } in
-    let others = crosses_none more p k (subst (λ q. some_joins more q ≡ false) same d.0) in
-    chosen (joins r p) (among k r.links) (some_crosses more p k) here others
-crosses_one (x ∷ rs) more r p k d none here =
-    let parts = or_parts (joins x p) (some_joins rs p) none in
-    let others = crosses_one rs more r p k d.1 parts.1 here in
-    passed (joins x p) (among k x.links) (among k r.links) _ parts.0 others

@@ -1,6 +1,6 @@
 -- What a route list is, the bytes that write it, and the fabric that it describes.
-use Rattle.std.specs.Prelude.{◌≡◌, ℕ, ◌/◌, ◌%◌, ◌<◌, ◌≤◌, Bool, false, ◌&&◌, ◌||◌, List, [], ◌∷◌, ◌++◌, length, ◌==◌}
-use Rattle.std.specs.List.{flat_map, AllByRecursion}
+use Rattle.std.specs.Prelude.{◌≡◌, ℕ, ◌/◌, ◌%◌, ◌<◌, ◌≤◌, Bool, false, ◌&&◌, List, [], ◌∷◌, ◌++◌, length, ◌==◌}
+use Rattle.std.specs.List.{flat_map, list_any, AllByRecursion}
 use Rattle.fabric.specs.declared.pairs.Pair.{Pair}
 use Rattle.fabric.specs.Meaning.{Meaning}
 
@@ -26,18 +26,15 @@ joins r p = r.source == p.source && r.destination == p.destination
 
 -- whether the link is among these
 abbrev pub among : ℕ → List ℕ → Bool
-among k [] = false
-among k (x ∷ xs) = x == k || among k xs
+among k xs = list_any (λ x. x == k) xs
 
 -- whether some route is that of the pair
 abbrev pub some_joins : List Route → Pair → Bool
-some_joins [] p = false
-some_joins (r ∷ rs) p = joins r p || some_joins rs p
+some_joins rs p = list_any (λ r. joins r p) rs
 
 -- whether some route is that of the pair and names the link
 abbrev pub some_crosses : List Route → Pair → ℕ → Bool
-some_crosses [] p k = false
-some_crosses (r ∷ rs) p k = (joins r p && among k r.links) || some_crosses rs p k
+some_crosses rs p k = list_any (λ r. joins r p && among k r.links) rs
 
 -- the fabric that a list describes
 abbrev pub listed : Listing → Meaning

@@ -1,9 +1,11 @@
 -- A list read off its bytes, by places: the one that was written where the bytes are those of a lawful list, and some list
 -- anyhow elsewhere. A reader need not believe it, since the contract of `RouteList::new` ties it to `encode`.
-use Rattle.std.specs.Prelude.{◌≡◌, ℕ, zero, suc, ◌+◌, ◌<◌, true, false, List, [], ◌∷◌, take, drop, slice_index}
+use Rattle.std.specs.Prelude.{ℕ, zero, suc, ◌+◌, List, [], ◌∷◌, Option, take, drop, slice_index}
+use Rattle.std.specs.List.{find}
+use Rattle.std.specs.Option.{option_map}
 use Rattle.fabric.specs.declared.pairs.Pair.{Pair}
 use Rattle.fabric.specs.Meaning.{Meaning}
-use Rattle.fabric.specs.RouteLists.{Route, Listing, listed, joins, some_joins}
+use Rattle.fabric.specs.RouteLists.{Route, Listing, listed, joins}
 use Rattle.fabric.specs.RouteRefusals.{stated_terminals, stated_links, stated_routes}
 
 -- the route that begins at a place, and where the next one does
@@ -38,11 +40,6 @@ decoded bs =
 abbrev pub bytes_meaning : List ℕ → Meaning
 bytes_meaning bs = listed (decoded bs)
 
--- Where the links of the pair's route stand: it is one of the first n routes, and none before it has the pair.
-pub record Found (bs : List ℕ) (n : ℕ) (p : Pair) (from count : ℕ) : Type 0 where
-  pub index : ℕ
-  pub index_below : index < n
-  pub none_before : some_joins (first_routes bs index) p ≡ false
-  pub is_pair : joins (route_at bs (first_end bs index)) p ≡ true
-  pub from_is : from ≡ first_end bs index + 3
-  pub count_is : count ≡ slice_index bs (first_end bs index + 2)
+-- the links of the pair's route, if one of these is its
+abbrev pub links_of : List Route → Pair → Option (List ℕ)
+links_of rs p = option_map (λ r. r.links) (find (λ r. joins r p) rs)

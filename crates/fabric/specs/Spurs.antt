@@ -1,7 +1,9 @@
 -- A spur: the terminals of a module, joined to a fabric at one of its terminals, the port.
-use Rattle.std.specs.Prelude.{◌≡◌, ℕ, ◌+◌, ◌<◌, ◌≤◌, Bool, false, cond, ◌&&◌, ◌||◌, ◌⊎◌, [], Decides, Result, MatchResult, ◌==◌, nat_le, nat_lt}
+use Rattle.std.specs.Prelude.{◌≡◌, ℕ, ◌+◌, ◌<◌, ◌≤◌, Bool, true, false, cond, ◌&&◌, ◌||◌, ◌⊎◌, [], Decides, Result, MatchResult, ◌==◌, nat_le, nat_lt}
 use Rattle.fabric.specs.declared.Size.{Size}
 use Rattle.fabric.specs.declared.faults.FabricFault.{FabricFault}
+use Rattle.fabric.specs.declared.modules.Hop.{Hop}
+use Rattle.fabric.specs.declared.modules.Hop.TheVariants.{Below, Out, In}
 use Rattle.fabric.specs.declared.modules.Module.{Module}
 use Rattle.fabric.specs.declared.pairs.Pair.{Pair}
 use Rattle.fabric.specs.declared.spurs.Spur.{Spur}
@@ -45,6 +47,10 @@ joined_size s d =
 abbrev pub in_module : Size → Module → ℕ → Bool
 in_module s d a = nat_le s.terminals a && nat_lt a (s.terminals + d.count)
 
+-- and they are there only if the module may be joined
+abbrev pub added : Size → Module → ℕ → Bool
+added s d a = joinable s d && in_module s d a
+
 -- what is left of a pair for the fabric below: it starts at the port if its source is in the module ..
 abbrev pub from_port : Module → Pair → Pair
 from_port d p = record { source = d.port; destination = p.destination }
@@ -52,6 +58,14 @@ from_port d p = record { source = d.port; destination = p.destination }
 -- .. and ends at the port if its destination is
 abbrev pub to_port : Module → Pair → Pair
 to_port d p = record { source = p.source; destination = d.port }
+
+-- How a pair goes: out of the module if its source is one that the module adds, else into it if its destination is,
+-- else below alone.
+abbrev pub HopIs : Size → Module → Pair → Hop → Type 0
+HopIs s d p Below = (added s d p.source ≡ false) × (added s d p.destination ≡ false)
+HopIs s d p (Out rest) = (added s d p.source ≡ true) × (rest ≡ from_port d p)
+HopIs s d p (In rest) =
+    (added s d p.source ≡ false) × (added s d p.destination ≡ true) × (rest ≡ to_port d p)
 
 -- both ends are one terminal, or the pair has a route
 abbrev pub reaches : Meaning → Pair → Bool

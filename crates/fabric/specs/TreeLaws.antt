@@ -1,21 +1,13 @@
 -- The tests of a tree are those of the lineage, and a tree keeps its routes.
-use Rattle.std.specs.Prelude.{◌≡◌, ℕ, zero, suc, ◌+◌, ◌-◌, ◌*◌, ◌/◌, ◌%◌, ◌<◌, ◌≤◌, Bool, true, false, cond, ◌⊎◌, List, Decides, ◌==◌, ◌≢◌, nat_eq, slice_index, refl}
+use Rattle.std.specs.Prelude.{◌≡◌, ℕ, zero, suc, ◌+◌, ◌-◌, ◌*◌, ◌/◌, ◌%◌, ◌<◌, ◌≤◌, Bool, true, false, cond, ◌⊎◌, List, Decides, ◌==◌, ◌≢◌, nat_eq, refl}
 use Rattle.std.proofs.Common.{subst, inl, inr, ⊎_elim, add-one, arith}
-use Rattle.std.proofs.lemmas.List.{get_or_past, get_or-take}
+use Rattle.std.proofs.lemmas.List.{get_or_past}
 use Rattle.std.proofs.lemmas.Bool.{cases_lt, eq-eqb, eqb-true}
 use Rattle.std.proofs.lemmas.Bool.Decides.{nat_tests, Decides-eqb, Decides-below_or, Decides-like, Decides-and, Decides-not, not_from_Decides, same_from_decides}
 use Rattle.fabric.specs.declared.pairs.Pair.{Pair}
 use Rattle.fabric.specs.Meaning.{KeepsRoutes}
 use Rattle.fabric.specs.Pairs.{two_of}
-use Rattle.fabric.specs.Trees.{tree_size, parent_of, TreeLawful, ancestor, Lineage, TreeRoutes, Leaves, TreeCrosses, held, in_lineage, leaves, met_below, tree_crossed, tree_meaning}
-
--- a terminal's parent as it stands in the array
-pub held_parent : (n v : ℕ) (parents : List ℕ) → 1 ≤ v → v < n → parent_of (held n parents) v ≡ slice_index parents (v - 1)
-held_parent n zero parents least most = let z : ⊥ = omega arith in absurd z
-held_parent n (suc k) parents least most =
-    let h : k < n - 1 = omega arith in
-    let e : suc k - 1 ≡ k = omega arith in
-    rw (e, get_or-take)
+use Rattle.fabric.specs.Trees.{tree_size, parent_of, TreeLawful, ancestor, Lineage, TreeRoutes, Leaves, TreeCrosses, in_lineage, leaves, met_below, tree_crossed, tree_meaning}
 
 -- one step up leads down in number, but from the root, which stays
 pub parent_under : (ps : List ℕ) → TreeLawful ps → (v : ℕ) → parent_of ps v ≤ v - 1

@@ -1,6 +1,6 @@
 -- A tree of terminals. Terminal 0 is the root, and every other terminal has a parent numbered below it.
 -- A tree is described by the parents of terminals 1, 2 and so on.
-use Rattle.std.specs.Prelude.{◌≡◌, ℕ, zero, suc, ◌+◌, ◌-◌, ◌*◌, ◌/◌, ◌%◌, ◌<◌, ◌≤◌, Bool, false, cond, not, ◌&&◌, ◌||◌, ◌⊎◌, List, ◌∷◌, length, take, ◌==◌, ◌≢◌, slice_index}
+use Rattle.std.specs.Prelude.{◌≡◌, ℕ, zero, suc, ◌+◌, ◌-◌, ◌*◌, ◌/◌, ◌%◌, ◌<◌, ◌≤◌, Bool, false, cond, not, ◌&&◌, ◌||◌, ◌⊎◌, List, ◌∷◌, length, ◌==◌, ◌≢◌, slice_index}
 use Rattle.fabric.specs.declared.pairs.Pair.{Pair}
 use Rattle.fabric.specs.Meaning.{Meaning}
 use Rattle.fabric.specs.Pairs.{two_of}
@@ -68,7 +68,3 @@ tree_crossed ps p k =
 abbrev pub tree_meaning : List ℕ → Meaning
 tree_meaning ps =
     record { terminals = tree_size ps; links = 2 * tree_size ps - 2; routed = two_of (tree_size ps); crossed = tree_crossed ps }
-
--- the description that a tree of n terminals holds: the parents, up to that of its last terminal
-abbrev pub held : ℕ → List ℕ → List ℕ
-held n parents = take (n - 1) parents

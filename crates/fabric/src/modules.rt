@@ -1,6 +1,6 @@
 //! Modules: terminals that join a fabric together, at one of its terminals.
-ghost use Rattle.std.specs.Prelude.{◌≡◌, ◌&&◌};
-ghost use Rattle.fabric.specs.Spurs.{Judged, joinable, joined_size, in_module, from_port, to_port};
+ghost use Rattle.std.specs.Prelude.{◌≡◌};
+ghost use Rattle.fabric.specs.Spurs.{Judged, HopIs, added, joined_size, from_port, to_port};
 
 use crate::Size;
 use crate::faults::FabricFault;
@@ -12,6 +12,17 @@ use crate::pairs::Pair;
 pub struct Module {
     pub port: u16,
     pub count: u16,
+}
+
+/// How a pair of the fabric with a module goes by the fabric below.
+#[derive(Clone, Copy, PartialEq, Eq, Debug)]
+pub enum Hop {
+    /// Neither end is in the module: the pair is one of the fabric below.
+    Below,
+    /// Its source is in the module: by the link out of it, and then as this pair below.
+    Out(Pair),
+    /// Its destination alone is in the module: as this pair below, and then by the link into it.
+    In(Pair),
 }
 
 impl Module {
@@ -46,7 +57,7 @@ impl Module {
 
     /// Whether the terminal is one that the module adds.
     pub fn added(self, below: Size, terminal: u16) -> bool
-        ensures { result ≡ (joinable below self && in_module below self terminal) }
+        ensures { result ≡ added below self terminal }
     {
         self.fits(below).is_ok()
             && below.terminals <= terminal
@@ -70,6 +81,19 @@ impl Module {
         Pair {
             source: pair.source,
             destination: self.port,
+        }
+    }
+
+    /// How the pair goes: out of the module, into it, or below alone.
+    pub fn hop(self, below: Size, pair: Pair) -> Hop
+        ensures { HopIs below self pair result }
+    {
+        if self.added(below, pair.source) {
+            Hop::Out(self.from_port(pair))
+        } else if self.added(below, pair.destination) {
+            Hop::In(self.to_port(pair))
+        } else {
+            Hop::Below
         }
     }
 }

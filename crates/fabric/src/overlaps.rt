@@ -16,10 +16,5 @@ pub fn shared<F: Fabric>(fabric: &F, one: Pair, other: Pair, link: u16) -> bool
 pub fn overlap<F: Fabric>(fabric: &F, one: Pair, other: Pair) -> bool
     ensures { Decides result (Overlap (F.Fabric.meaning fabric.now) one other) }
 {
-    for link in 0..fabric.links() {
-        if shared(fabric, one, other, link) {
-            return true;
-        }
-    }
-    false
+    (0..fabric.links()).any(|link| shared(fabric, one, other, link))
 }

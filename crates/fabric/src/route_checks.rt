@@ -1,8 +1,9 @@
 //! The check of a route list: whether its bytes keep the layout, and if not, where they first break it.
-ghost use Rattle.std.specs.Prelude.{◌≡◌, ℕ, ◌+◌, ◌*◌, ◌<◌, ◌≤◌, [], ◌∷◌, length, MatchResult, slice_index};
+ghost use Rattle.std.specs.Prelude.{◌≡◌, ℕ, ◌+◌, ◌<◌, ◌≤◌, [], ◌∷◌, length, take, nat_lt, MatchResult, slice_index};
+ghost use Rattle.std.specs.List.{prefix_len};
 ghost use Rattle.fabric.specs.Faults.{numbered};
 ghost use Rattle.fabric.specs.RouteLists.{Accepted, AcceptedWith};
-ghost use Rattle.fabric.specs.RouteReading.{next_at, first_routes, first_end};
+ghost use Rattle.fabric.specs.RouteReading.{first_routes, first_end};
 ghost use Rattle.fabric.specs.RouteRefusals.{Kept, RefusedBy, Settled, stated_terminals, stated_links};
 ghost use Rattle.fabric.specs.RouteChecking.{HeaderRead, HeaderBroken, RouteBroken};
 
@@ -18,18 +19,13 @@ pub struct ListSummary {
     pub routes: u8,
 }
 
-/// The number in two bytes, the high one first.
-pub(crate) fn wide_number(high: u8, low: u8) -> u16
-    ensures { result ≡ high * 256 + low }
-{
-    u16::from(high) * 256 + u16::from(low)
-}
-
 /// The seven bytes before the routes, checked field by field.
 fn check_header(bytes: &[u8]) -> Result<ListSummary, FabricFault>
     ensures { MatchResult result (λ s. HeaderRead bytes.now s.terminals s.links s.routes) (λ fault. HeaderBroken bytes.now fault) }
 {
-    if bytes.len() < ROUTES_AT || usize::from(wide_number(bytes[0], bytes[1])) != bytes.len() - 2 {
+    if bytes.len() < ROUTES_AT
+        || usize::from(u16::from_be_bytes([bytes[0], bytes[1]])) != bytes.len() - 2
+    {
         return Err(FabricFault::BadList { place: 0 });
     }
     if bytes[2] != 1 {
@@ -39,7 +35,7 @@ fn check_header(bytes: &[u8]) -> Result<ListSummary, FabricFault>
     if terminals < 2 || terminals > 128 {
         return Err(FabricFault::BadList { place: 3 });
     }
-    let links = wide_number(bytes[4], bytes[5]);
+    let links = u16::from_be_bytes([bytes[4], bytes[5]]);
     if links < 1 || links > 256 {
         return Err(FabricFault::BadList { place: 4 });
     }
@@ -54,53 +50,80 @@ fn check_header(bytes: &[u8]) -> Result<ListSummary, FabricFault>
 fn byte_at(bytes: &[u8], place: usize) -> Result<u8, FabricFault>
     ensures { MatchResult result (λ b. (place < length bytes.now) × (b ≡ slice_index bytes.now place)) (λ fault. (length bytes.now ≤ place) × (numbered fault ≡ (3, place ∷ []))) }
 {
-    if place >= bytes.len() {
-        return Err(FabricFault::BadList { place });
-    }
-    Ok(bytes[place])
+    bytes
+        .get(place)
+        .copied()
+        .ok_or(FabricFault::BadList { place })
 }
 
-/// The two ends of the route that begins at `at`, after the first `earlier` routes.
-fn check_ends(bytes: &[u8], terminals: u16, earlier: u8, at: usize) -> Result<(), FabricFault>
-    requires { (terminals ≡ stated_terminals bytes.now) × ((at ≡ first_end bytes.now earlier) × (at ≤ length bytes.now)) }
-    ensures { MatchResult result (λ _. ((k : ℕ) → k < 2 → Kept bytes.now (first_routes bytes.now earlier) at k)) (λ fault. RouteBroken bytes.now (first_routes bytes.now earlier) at fault) }
-{
-    let source = u16::from(byte_at(bytes, at)?);
-    if source >= terminals {
-        return Err(FabricFault::BadList { place: at });
-    }
-    let destination = u16::from(byte_at(bytes, at + 1)?);
-    let pair = Pair {
-        source,
-        destination,
-    };
-    if destination >= terminals || destination == source || find(bytes, earlier, pair).is_some() {
-        return Err(FabricFault::BadList { place: at + 1 });
-    }
-    Ok(())
-}
-
-/// The route that begins at `at`, after the first `earlier` routes, checked byte by byte; answers where it ends.
-fn check_route(
-    bytes: &[u8],
+/// How far a list was read: its bytes, what its header states, how many routes were passed, and the place where they
+/// end and the next one begins.
+#[derive(Clone, Copy)]
+struct Reading<'a> {
+    bytes: &'a [u8],
     summary: ListSummary,
-    earlier: u8,
+    passed: u8,
     at: usize,
-) -> Result<usize, FabricFault>
-    requires { (summary.terminals ≡ stated_terminals bytes.now) × ((summary.links ≡ stated_links bytes.now) × ((at ≡ first_end bytes.now earlier) × (at ≤ length bytes.now))) }
-    ensures { MatchResult result (λ end. (end ≡ next_at bytes.now at) × ((k : ℕ) → k < 3 + slice_index bytes.now (at + 2) → Kept bytes.now (first_routes bytes.now earlier) at k)) (λ fault. RouteBroken bytes.now (first_routes bytes.now earlier) at fault) }
-{
-    check_ends(bytes, summary.terminals, earlier, at)?;
-    let size = 3 + usize::from(byte_at(bytes, at + 2)?);
-    if size == 3 {
-        return Err(FabricFault::BadList { place: at + 2 });
-    }
-    for k in 3..size {
-        if u16::from(byte_at(bytes, at + k)?) >= summary.links {
-            return Err(FabricFault::BadList { place: at + k });
+    ghost terminals_are: { summary.terminals ≡ stated_terminals bytes.now },
+    ghost links_are: { summary.links ≡ stated_links bytes.now },
+    ghost at_end: { at ≡ first_end bytes.now passed },
+    ghost within: { at ≤ length bytes.now },
+}
+
+impl<'a> Reading<'a> {
+    /// The two ends of the next route.
+    fn check_ends(&self) -> Result<(), FabricFault>
+        ensures { MatchResult result (λ _. ((k : ℕ) → k < 2 → Kept self.now.bytes.now (first_routes self.now.bytes.now self.now.passed) self.now.at k)) (λ fault. RouteBroken self.now.bytes.now (first_routes self.now.bytes.now self.now.passed) self.now.at fault) }
+    {
+        let source = u16::from(byte_at(self.bytes, self.at)?);
+        if source >= self.summary.terminals {
+            return Err(FabricFault::BadList { place: self.at });
         }
+        let place = self.at + 1;
+        let destination = u16::from(byte_at(self.bytes, place)?);
+        let pair = Pair {
+            source,
+            destination,
+        };
+        if !pair.two_of(self.summary.terminals) || find(self.bytes, self.passed, pair).is_some() {
+            return Err(FabricFault::BadList { place });
+        }
+        Ok(())
     }
-    Ok(at + size)
+
+    /// The reading past the next route, which is checked byte by byte.
+    fn pass_route(&self) -> Result<Reading<'a>, FabricFault>
+        requires { self.now.passed < 255 }
+        ensures { MatchResult result (λ next. (next.bytes ≡ self.now.bytes) × (next.summary ≡ self.now.summary) × (next.passed ≡ self.now.passed + 1) × ((k : ℕ) → k < 3 + slice_index self.now.bytes.now (self.now.at + 2) → Kept self.now.bytes.now (first_routes self.now.bytes.now self.now.passed) self.now.at k)) (λ fault. RouteBroken self.now.bytes.now (first_routes self.now.bytes.now self.now.passed) self.now.at fault) }
+    {
+        self.check_ends()?;
+        let count = usize::from(byte_at(self.bytes, self.at + 2)?);
+        if count == 0 {
+            return Err(FabricFault::BadList { place: self.at + 2 });
+        }
+        let from = self.at + 3;
+        let kept = links_kept(&self.bytes[from..], count, self.summary.links);
+        if kept < count {
+            return Err(FabricFault::BadList { place: from + kept });
+        }
+        Ok(Reading {
+            bytes: self.bytes,
+            summary: self.summary,
+            passed: self.passed + 1,
+            at: from + count,
+        })
+    }
+}
+
+/// How many of so many bytes come before the first that is missing or names no link.
+fn links_kept(bytes: &[u8], count: usize, links: u16) -> usize
+    ensures { result ≡ prefix_len (λ link. nat_lt link links) (take count bytes.now) }
+{
+    bytes
+        .iter()
+        .take(count)
+        .take_while(|link| u16::from(**link) < links)
+        .count()
 }
 
 /// Whether the bytes keep the layout of a route list: what its header states, or the place of the first
@@ -110,12 +133,17 @@ pub fn check(bytes: &[u8]) -> Result<ListSummary, FabricFault>
     ensures settled { Settled bytes.now }
 {
     let summary = check_header(bytes)?;
-    let mut at = ROUTES_AT;
-    for earlier in 0..summary.routes {
-        at = check_route(bytes, summary, earlier, at)?;
+    let mut reading = Reading {
+        bytes,
+        summary,
+        passed: 0,
+        at: ROUTES_AT,
+    };
+    for _ in 0..summary.routes {
+        reading = reading.pass_route()?;
     }
-    if at < bytes.len() {
-        return Err(FabricFault::BadList { place: at });
+    if reading.at < bytes.len() {
+        return Err(FabricFault::BadList { place: reading.at });
     }
     Ok(summary)
 }

@@ -1,13 +1,14 @@
 //! The route list: a fabric read from the caller's bytes.
 ghost use Rattle.std.specs.Prelude.{◌≡◌};
-ghost use Rattle.fabric.specs.RouteLists.{Listing, Lawful, Accepted, encode, listed, bare};
-ghost use Rattle.fabric.specs.RouteReading.{bytes_meaning, decoded};
+ghost use Rattle.std.specs.Option.{option_map};
+ghost use Rattle.fabric.specs.RouteLists.{Listing, Lawful, Accepted, among, encode, listed, bare};
+ghost use Rattle.fabric.specs.RouteReading.{bytes_meaning, decoded, links_of};
 ghost use Rattle.fabric.specs.RouteLaws.{list_keeps};
 ghost use Rattle.fabric.specs.RouteKept.{kept_lawful};
 
 use crate::pairs::Pair;
-use crate::route_checks::{check, wide_number};
-use crate::route_scans::{Part, find};
+use crate::route_checks::check;
+use crate::route_scans::find;
 use crate::{Fabric, Size};
 
 /// The list of two terminals, one link and no route.
@@ -33,6 +34,13 @@ impl<'a> RouteList<'a> {
         };
         RouteList { bytes }
     }
+
+    // The links of the pair's route, if it has one.
+    fn route(&self, pair: Pair) -> Option<&[u8]>
+        ensures { option_map (λ links. links.now) result ≡ links_of (decoded self.now.bytes.now).routes pair }
+    {
+        find(self.bytes, self.bytes[6], pair)
+    }
 }
 
 impl Fabric for RouteList<'_> {
@@ -45,23 +53,15 @@ impl Fabric for RouteList<'_> {
     }
 
     fn links(&self) -> u16 {
-        wide_number(self.bytes[4], self.bytes[5])
+        u16::from_be_bytes([self.bytes[4], self.bytes[5]])
     }
 
     fn routed(&self, pair: Pair) -> bool {
-        find(self.bytes, self.bytes[6], pair).is_some()
+        self.route(pair).is_some()
     }
 
     fn crosses(&self, pair: Pair, link: u16) -> bool {
-        let Some(Part { from, count }) = find(self.bytes, self.bytes[6], pair) else {
-            return false;
-        };
-        for byte in &self.bytes[from..from + count] {
-            if u16::from(*byte) == link {
-                return true;
-            }
-        }
-        false
+        self.route(pair).is_some_and(|links| names(links, link))
     }
 
     // Written here, since the trait's own body is not taken over by an impl with a lifetime.
@@ -71,4 +71,11 @@ impl Fabric for RouteList<'_> {
             links: self.links(),
         }
     }
+}
+
+// Whether the link is among those that the bytes name.
+fn names(links: &[u8], link: u16) -> bool
+    ensures { result ≡ among link links.now }
+{
+    links.iter().any(|byte| u16::from(*byte) == link)
 }

@@ -5,7 +5,7 @@ ghost use Rattle.fabric.specs.Spurs.{Judged, size_of, reaches, crossed_with, spu
 ghost use Rattle.fabric.specs.SpurLaws.{spurred_keeps};
 
 use crate::faults::FabricFault;
-use crate::modules::Module;
+use crate::modules::{Hop, Module};
 use crate::pairs::Pair;
 use crate::{Fabric, Size};
 
@@ -67,24 +67,18 @@ impl<F: Fabric> Fabric for Spur<F> {
     }
 
     fn routed(&self, pair: Pair) -> bool {
-        let below = self.below.size();
-        if self.module.added(below, pair.source) {
-            self.reached(self.module.from_port(pair))
-        } else if self.module.added(below, pair.destination) {
-            self.reached(self.module.to_port(pair))
-        } else {
-            self.below.routed(pair)
+        match self.module.hop(self.below.size(), pair) {
+            Hop::Below => self.below.routed(pair),
+            Hop::Out(rest) | Hop::In(rest) => self.reached(rest),
         }
     }
 
     fn crosses(&self, pair: Pair, link: u16) -> bool {
         let below = self.below.size();
-        if self.module.added(below, pair.source) {
-            self.crosses_with(below.links, self.module.from_port(pair), link)
-        } else if self.module.added(below, pair.destination) {
-            self.crosses_with(below.links + 1, self.module.to_port(pair), link)
-        } else {
-            self.below.crosses(pair, link)
+        match self.module.hop(below, pair) {
+            Hop::Below => self.below.crosses(pair, link),
+            Hop::Out(rest) => self.crosses_with(below.links, rest, link),
+            Hop::In(rest) => self.crosses_with(below.links + 1, rest, link),
         }
     }
 }

@@ -1,64 +1,59 @@
 //! The tree: every terminal but the root hangs from one numbered below it, by a link up and a link down.
 ghost use Rattle.std.specs.Prelude.{◌≡◌, ◌<◌, [], ◌∷◌, Decides, MatchResult};
 ghost use Rattle.fabric.specs.Faults.{numbered};
-ghost use Rattle.fabric.specs.Trees.{held, Leaves, Lineage, TreeCrosses, TreeLawful, TreeRoutes, tree_meaning, tree_size};
+ghost use Rattle.fabric.specs.Trees.{Leaves, Lineage, TreeCrosses, TreeLawful, TreeRoutes, tree_meaning, tree_size};
 ghost use Rattle.fabric.specs.TreeLaws.{tree_keeps};
 
 use crate::Fabric;
 use crate::faults::FabricFault;
 use crate::pairs::Pair;
+use arrayvec::ArrayVec;
 
 /// A tree of 2 to 128 terminals. Terminal 0 is the root.
 #[derive(Drop)]
 pub struct Tree {
-    terminals: u16,
     // of terminals 1, 2 and so on
-    parents: [u8; 127],
-    ghost sized: { tree_size (held terminals parents) ≡ terminals },
-    ghost lawful: { TreeLawful (held terminals parents) },
+    parents: ArrayVec<u8, 127>,
+    ghost lawful: { TreeLawful parents.items },
 }
 
 impl Tree {
     /// The tree of two terminals.
     pub fn new() -> Tree
-        ensures { held result.terminals result.parents ≡ 0 ∷ [] }
+        ensures { result.parents.items ≡ 0 ∷ [] }
     {
-        Tree {
-            terminals: 2,
-            parents: [0; 127],
-        }
+        let mut parents = ArrayVec::new();
+        parents.push(0);
+        Tree { parents }
     }
 
     /// Makes this the tree that is described by the parents of terminals 1, 2 and so on: 1 to 127 of them, each
     /// numbered below its child. Any other description is refused, and the tree stays as it was.
     pub fn fill(&mut self, parents: &[u16]) -> Result<(), FabricFault>
         ensures { MatchResult result
-            (λ _. TreeLawful parents.now × (held self.new.terminals self.new.parents ≡ parents.now))
+            (λ _. TreeLawful parents.now × (self.new.parents.items ≡ parents.now))
             (λ fault. (TreeLawful parents.now → ⊥) × (numbered fault ≡ (2, [])) × (self.new ≡ self.old)) }
     {
         if parents.is_empty() || parents.len() > 127 {
             return Err(FabricFault::OutsideLimits);
         }
-        let mut copied = [0; 127];
+        let mut copied = ArrayVec::new();
         for (at, parent) in parents.iter().enumerate() {
             let child = at + 1;
             if usize::from(*parent) >= child {
                 return Err(FabricFault::OutsideLimits);
             }
-            copied[at] = *parent as u8;
+            copied.push(*parent as u8);
         }
-        *self = Tree {
-            terminals: parents.len() as u16 + 1,
-            parents: copied,
-        };
+        self.parents = copied;
         Ok(())
     }
 
     // Whether the terminal is in the lineage of the other. A parent is numbered below its child, so the way up
     // either meets the terminal or passes below it.
     fn in_lineage(&self, of: u16, terminal: u16) -> bool
-        requires { of < self.now.terminals }
-        ensures { Decides result (Lineage (held self.now.terminals self.now.parents) of terminal) }
+        requires { of < tree_size self.now.parents.items }
+        ensures { Decides result (Lineage self.now.parents.items of terminal) }
     {
         let mut at = of;
         while at > terminal {
@@ -69,36 +64,36 @@ impl Tree {
 
     // Whether the way from one terminal to another leaves this one for its parent.
     fn leaves(&self, from: u16, to: u16, terminal: u16) -> bool
-        requires { (from < self.now.terminals) × (to < self.now.terminals) }
-        ensures { Decides result (Leaves (held self.now.terminals self.now.parents) from to terminal) }
+        requires { (from < tree_size self.now.parents.items) × (to < tree_size self.now.parents.items) }
+        ensures { Decides result (Leaves self.now.parents.items from to terminal) }
     {
         self.in_lineage(from, terminal) && !self.in_lineage(to, terminal)
     }
 }
 
 impl Fabric for Tree {
-    ghost meaning = { λ tree. tree_meaning (held tree.terminals tree.parents) };
+    ghost meaning = { λ tree. tree_meaning tree.parents.items };
 
     ghost keeps = { λ tree. tree_keeps _ tree.lawful };
 
     fn terminals(&self) -> u16 {
-        self.terminals
+        self.parents.len() as u16 + 1
     }
 
     fn links(&self) -> u16 {
-        2 * self.terminals - 2
+        2 * self.terminals() - 2
     }
 
     fn routed(&self, pair: Pair) -> bool
-        ensures meant { result ≡ (tree_meaning (held self.now.terminals self.now.parents)).routed pair }
-        ensures decides { Decides result (TreeRoutes (held self.now.terminals self.now.parents) pair) }
+        ensures meant { result ≡ (tree_meaning self.now.parents.items).routed pair }
+        ensures decides { Decides result (TreeRoutes self.now.parents.items pair) }
     {
-        pair.two_of(self.terminals)
+        pair.two_of(self.terminals())
     }
 
     fn crosses(&self, pair: Pair, link: u16) -> bool
-        ensures meant { result ≡ (tree_meaning (held self.now.terminals self.now.parents)).crossed pair link }
-        ensures decides { Decides result (TreeCrosses (held self.now.terminals self.now.parents) pair link) }
+        ensures meant { result ≡ (tree_meaning self.now.parents.items).crossed pair link }
+        ensures decides { Decides result (TreeCrosses self.now.parents.items pair link) }
     {
         if !self.routed(pair) {
             return false;

@@ -1,7 +1,7 @@
-use Rattle.std.proofs.Common.{◌≡◌, refl, arith}
+use Rattle.std.proofs.Common.{◌≡◌, ◌+◌, refl, sym, ap, ◌∙◌, arith}
 use Rattle.std.proofs.lemmas.Result.{err_from_is_err_and}
 use Rattle.fabric.specs.declared.faults.FabricFault.TheVariants.{BadList}
-use Rattle.fabric.specs.RouteRefusals.{stated_routes}
+use Rattle.fabric.specs.RouteRefusals.{stated_terminals, stated_links, stated_routes}
 use Rattle.fabric.proofs.RouteRefused.{settled}
 use Rattle.fabric.proofs.RouteSteps.{none_at}
 use Rattle.fabric.proofs.RouteAnswers.{none_lawful, more_lawful, reached_first, refused, header_refused, route_refused, left_refused, accepted}
@@ -16,41 +16,71 @@ returns-in_err-summary c =
       settled = settled bs;
     }
 
-pub loop-earlier-init : goal.loop-earlier-init
-loop-earlier-init c =
+pub loop-init : goal.loop-init
+loop-init c =
     let bs = c.args.bytes.now in
-    (none_at bs, (c.in_ok-summary.ensures.rules 0 (omega arith)).0, none_lawful _ _ bs)
+    record {
+      same_bytes = refl;
+      same_summary = refl;
+      passed_is = refl;
+      at_end = none_at bs;
+      within = (c.in_ok-summary.ensures.rules 0 (omega arith)).0;
+      lawful = none_lawful _ _ bs;
+    }
 
-pub returns-in_err-at : goal.returns-in_err-at
-returns-in_err-at c =
+pub invariant_of-reading : goal.invariant_of-reading
+invariant_of-reading c =
+    let read = c.in_ok-summary.ensures in
+    let i = c.loop.invariant in
+    record {
+      terminals_are = ap (λ s. s.terminals) i.same_summary ∙ read.terminals_are ∙ ap stated_terminals (sym i.same_bytes);
+      links_are = ap (λ s. s.links) i.same_summary ∙ read.links_are ∙ ap stated_links (sym i.same_bytes);
+      at_end = rw (i.same_bytes, i.passed_is) i.at_end;
+      within = rw i.same_bytes i.within;
+    }
+
+pub returns-in_err-reading : goal.returns-in_err-reading
+returns-in_err-reading c =
     let bs = c.args.bytes.now in
     let read = c.in_ok-summary.ensures in
-    let i = c.loop-earlier.invariant in
-    let n = c.loop-earlier.earlier in
-    let reached = reached_first bs n c.loop-earlier.at read.rules i.0 i.1 i.2 in
-    let p = err_from_is_err_and c.from_residual-in_err-at.result c.from_residual-in_err-at.ensures.1 in
+    let i = c.loop.invariant in
+    let n = c.loop.counter in
+    let reached = reached_first bs n _ read.rules i.at_end i.within i.lawful in
+    let p = err_from_is_err_and c.from_residual-in_err-reading.result c.from_residual-in_err-reading.ensures.1 in
+    let broken = rw (i.same_bytes, i.passed_is) at c.in_err-reading.ensures in
     record {
-      answer = rw (p.1, p.2) (refused bs _ (route_refused bs n c.loop-earlier.at _ reached (omega (arith, read.routes_are)) c.in_err-at.ensures));
+      answer = rw (p.1, p.2) (refused bs _ (route_refused bs n _ _ reached (omega (arith, read.routes_are)) broken));
       settled = settled bs;
     }
 
-pub loop-earlier-preserved : goal.loop-earlier-preserved
-loop-earlier-preserved c =
+pub loop-preserved : goal.loop-preserved
+loop-preserved c =
     let bs = c.args.bytes.now in
-    let i = c.loop-earlier.invariant in
-    let end = c.in_ok-at.ensures in
-    more_lawful bs c.loop-earlier.earlier c.loop-earlier.at c.in_ok-at.at i.0 i.2 end.0 end.1
+    let i = c.loop.invariant in
+    let next = c.in_ok-reading.reading in
+    let made = c.in_ok-reading.ensures in
+    let same : next.bytes.now ≡ bs = ap (λ b. b.now) made.0 ∙ i.same_bytes in
+    let passed : next.passed ≡ c.loop.counter + 1 = omega (arith, made.2, i.passed_is) in
+    record {
+      same_bytes = same;
+      same_summary = made.1 ∙ i.same_summary;
+      passed_is = passed;
+      at_end = rw (same, passed) at next.at_end;
+      within = rw same at next.within;
+      lawful = more_lawful bs c.loop.counter _ i.at_end i.lawful (rw (i.same_bytes, i.passed_is) at made.3);
+    }
 
-pub returns-then-at-bytes : goal.returns-then-at-bytes
-returns-then-at-bytes c =
+pub returns-then-reading-bytes : goal.returns-then-reading-bytes
+returns-then-reading-bytes c =
     let bs = c.args.bytes.now in
     let read = c.in_ok-summary.ensures in
-    let i = c.loop-earlier.invariant in
-    let n = c.loop-earlier.earlier in
-    let reached = reached_first bs n c.loop-earlier.at read.rules i.0 i.1 i.2 in
+    let i = c.loop.invariant in
+    let n = c.loop.counter in
+    let at = c.loop.reading.1.1.1.0 in
+    let reached = reached_first bs n at read.rules i.at_end i.within i.lawful in
     let all : n ≡ stated_routes bs = omega (arith, read.routes_are) in
     record {
-      answer = refused bs (BadList c.loop-earlier.at) (c.loop-earlier.at, refl, left_refused bs n c.loop-earlier.at reached all c.if-at-bytes.true);
+      answer = refused bs (BadList at) (at, refl, left_refused bs n at reached all c.if-reading-bytes.true);
       settled = settled bs;
     }
 
@@ -58,11 +88,12 @@ pub returns : goal.returns
 returns c =
     let bs = c.args.bytes.now in
     let read = c.in_ok-summary.ensures in
-    let i = c.loop-earlier.invariant in
-    let n = c.loop-earlier.earlier in
-    let reached = reached_first bs n c.loop-earlier.at read.rules i.0 i.1 i.2 in
+    let i = c.loop.invariant in
+    let n = c.loop.counter in
+    let at = c.loop.reading.1.1.1.0 in
+    let reached = reached_first bs n at read.rules i.at_end i.within i.lawful in
     let all : n ≡ stated_routes bs = omega (arith, read.routes_are) in
     record {
-      answer = accepted bs _ _ _ n c.loop-earlier.at read (omega (arith, c.type_inv.bytes 1)) (omega (arith, c.type_inv.bytes 5)) reached i.0 all c.if-at-bytes.false;
+      answer = accepted bs _ _ _ n at read (omega (arith, c.type_inv.bytes 1)) (omega (arith, c.type_inv.bytes 5)) reached i.at_end all c.if-reading-bytes.false;
       settled = settled bs;
     }

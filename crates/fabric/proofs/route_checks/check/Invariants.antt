@@ -4,9 +4,13 @@ use Rattle.fabric.specs.RouteReading.{first_routes, first_end}
 use Rattle.fabric.specs.RouteRefusals.{stated_terminals, stated_links}
 use Rattle.fabric.proofs.route_checks.check.Given as goal
 
--- the routes so far end here, and they are lawful
-abbrev pub invariant-loop-earlier : goal.invariant-loop-earlier
-invariant-loop-earlier l =
-    (l.at ≡ first_end l.bytes l.earlier)
-    × (l.at ≤ length l.bytes)
-    × LawfulRoutes (stated_terminals l.bytes) (stated_links l.bytes) (first_routes l.bytes l.earlier)
+-- so many routes are passed, and they are lawful
+abbrev pub invariant-loop : goal.invariant-loop
+invariant-loop l = record {
+  same_bytes : l.reading.0.now ≡ l.bytes;
+  same_summary : l.reading.1.0 ≡ l.summary;
+  passed_is : l.reading.1.1.0 ≡ l.counter;
+  at_end : l.reading.1.1.1.0 ≡ first_end l.bytes l.counter;
+  within : l.reading.1.1.1.0 ≤ length l.bytes;
+  lawful : LawfulRoutes (stated_terminals l.bytes) (stated_links l.bytes) (first_routes l.bytes l.counter);
+}

@@ -1,38 +1,34 @@
-use Rattle.std.proofs.Common.{◌≡◌, ◌+◌, true, false, get_or, sym, ap, ◌∙◌, subst, arith}
-use Rattle.std.proofs.lemmas.Bool.Decides.{nat_tests}
+use borrow.Author.Tests.{tests}
+use Rattle.std.proofs.Common.{rules, ◌≡◌, ℕ, ◌-◌, List, length, take, drop, ap, ◌∙◌, arith}
+use Rattle.std.proofs.lemmas.Iterator.Consumers.{YieldsList-from_first}
+use Rattle.std.proofs.lemmas.Iterator.Search.{find_from_yields_List}
+use Rattle.std.proofs.lemmas.List.{take_all, length-drop}
+use Rattle.fabric.specs.RouteReading.{routes_from, end_from, first_routes}
 use Rattle.fabric.specs.RouteLists.{joins}
-use Rattle.fabric.specs.RouteReading.{route_at}
-use Rattle.fabric.proofs.RouteSteps.{none_at, none_passed, none_within, pass_one, found_joins}
+use Rattle.fabric.specs.RouteBytes.{end_above}
+use Rattle.fabric.proofs.RouteSteps.{routes_left, end_left}
 use Rattle.fabric.proofs.route_scans.find.Goals as goal
-use Rattle.fabric.proofs.route_scans.find.Goals.{else-from-pair-via-then-from-pair+else-from-pair-2, else-from-pair-via-else-from-pair}
 
-pub loop-passed-init : goal.loop-passed-init
-loop-passed-init c =
-    let bs = c.args.bytes.now in
-    (none_at bs, none_passed bs c.args.pair, none_within bs c.args.routes c.requires)
+pub slice_bounds-routes-count : goal.slice_bounds-routes-count
+slice_bounds-routes-count c = omega (arith, end_above c.args.bytes.now c.args.routes 7, c.requires)
 
-pub loop-passed-preserved : goal.loop-passed-preserved
-loop-passed-preserved c =
-    let bs = c.args.bytes.now in
-    let this : joins (route_at bs c.loop-passed.at) c.args.pair ≡ false =
-    elim c.else-from-pair.branch [ else-from-pair-via-then-from-pair+else-from-pair-2 w ↦ grind (arith, nat_tests) | else-from-pair-via-else-from-pair w ↦ grind (arith, nat_tests) ] in
-    pass_one bs c.args.pair c.loop-passed._passed c.args.routes c.loop-passed.at c.from-count.result c.loop-passed.invariant.0 c.from-count.ensures c.loop-passed.invariant.1 this c.requires
+pub slice_bounds-routes-start : goal.slice_bounds-routes-start
+slice_bounds-routes-start c = omega (arith, end_above c.args.bytes.now c.args.routes 7, c.requires)
 
-pub returns-then-from-pair-2 : goal.returns-then-from-pair-2
-returns-then-from-pair-2 c =
+-- the slice that is read is what is left after the header
+after_header : (bs : List ℕ) → take (length bs - 7) (drop 7 bs) ≡ drop 7 bs
+after_header bs = take_all (length bs - 7) (drop 7 bs) (omega (arith, length-drop 7 bs))
+
+pub invariant_of-routes : goal.invariant_of-routes
+invariant_of-routes c =
     let bs = c.args.bytes.now in
-    let i = c.loop-passed._passed in
-    let at = c.loop-passed.invariant.0 in
-    let this : joins (route_at bs c.loop-passed.at) c.args.pair ≡ true = grind (arith, nat_tests) in
-    let here = subst (λ a. joins (route_at bs a) c.args.pair ≡ true) at this in
-    record {
-      whether = sym (found_joins bs c.args.pair i c.args.routes c.loop-passed-test.true here);
-      place = record {
-        index = i;
-        index_below = c.loop-passed-test.true;
-        none_before = c.loop-passed.invariant.1;
-        is_pair = here;
-        from_is = omega arith;
-        count_is = c.from-count.ensures ∙ ap (λ a. get_or bs (a + 2) 0) at;
-      };
-    }
+    let same = ap (λ r. end_from r c.args.routes 0) (after_header bs) in
+    record { whole = omega (arith, same, ap length (after_header bs), length-drop 7 bs, end_left bs c.args.routes 7 0, c.requires) }
+
+pub returns : goal.returns
+returns c =
+    let bs = c.args.bytes.now in
+    let n = c.args.routes in
+    let same = ap (λ r. routes_from r n 0) (after_header bs) ∙ routes_left bs n 7 0 in
+    let found = find_from_yields_List (λ r. joins r c.args.pair) c.find.new.self _ c.find.result c.find.ensures.ran (YieldsList-from_first _ _ (first_routes bs n) cc) (λ x b q k. search (rules, tests)) in
+    search (rules, tests)

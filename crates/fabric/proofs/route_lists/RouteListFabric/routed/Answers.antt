@@ -1,9 +1,7 @@
-use Rattle.std.proofs.Common.{arith}
-use Rattle.fabric.specs.RouteKept.{kept_size, kept_whole}
+use Rattle.std.proofs.Common.{◌∙◌}
+use Rattle.fabric.specs.RouteReading.{decoded}
+use Rattle.fabric.proofs.RouteLinks.{found_joins}
 use Rattle.fabric.proofs.route_lists.RouteListFabric.routed.Goals as goal
 
-pub bounds-self-6 : goal.bounds-self-6
-bounds-self-6 c = omega (arith, kept_size c.args.self.now.bytes.now c.args.self.now.kept)
-
-pub find-requires : goal.find-requires
-find-requires c = omega (arith, kept_whole c.args.self.now.bytes.now c.args.self.now.kept)
+pub returns : goal.returns
+returns c = c.is_some.ensures ∙ found_joins _ _ (decoded c.args.self.now.bytes.now).routes c.args.pair c.route.ensures

@@ -1,17 +1,20 @@
-use Rattle.std.proofs.Common.{◌≡◌, arith}
-use Rattle.fabric.specs.Trees.{held, parent_of}
-use Rattle.fabric.specs.TreeLaws.{held_parent, parent_under, alike_up, alike_met}
+use Rattle.std.proofs.Common.{◌≡◌, ℕ, zero, suc, ◌-◌, ◌≤◌, List, get_or, refl, arith}
+use Rattle.fabric.specs.Trees.{parent_of}
+use Rattle.fabric.specs.TreeLaws.{parent_under, alike_up, alike_met}
 use Rattle.fabric.proofs.trees.Tree.in_lineage.Goals as goal
 
+parent_above : (ps : List ℕ) (v : ℕ) → 1 ≤ v → parent_of ps v ≡ get_or ps (v - 1) 0
+parent_above ps zero least = omega arith
+parent_above ps (suc k) least = let e : suc k - 1 ≡ k = omega arith in rw e refl
+
 -- the next terminal on the way up is the parent
-stepped : (c : goal.After-from-at) → parent_of (held c.args.self.now.terminals c.args.self.now.parents) c.loop-at.at ≡ c.from-at.result
+stepped : (c : goal.After-from-at) → parent_of c.args.self.now.parents.items c.loop-at.at ≡ c.from-at.result
 stepped c =
-    let e = held_parent c.args.self.now.terminals c.loop-at.at c.args.self.now.parents (omega arith) (omega arith) in
-    cc
+    let e = parent_above c.args.self.now.parents.items c.loop-at.at (omega arith) in cc
 
 pub loop-at-smaller : goal.loop-at-smaller
 loop-at-smaller c =
-    omega (arith, stepped c, parent_under (held c.args.self.now.terminals c.args.self.now.parents) c.args.self.now.lawful c.loop-at.at)
+    omega (arith, stepped c, parent_under c.args.self.now.parents.items c.args.self.now.lawful c.loop-at.at)
 
 pub loop-at-preserved : goal.loop-at-preserved
 loop-at-preserved c =

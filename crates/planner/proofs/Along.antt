@@ -1,36 +1,41 @@
 -- Placing along a list, flow by flow, and what it says along an order.
-use Rattle.std.proofs.Common.{◌≡◌, ℕ, zero, suc, ◌+◌, ◌-◌, ◌<◌, ◌≤◌, Bool, true, false, cond, ◌&&◌, ◌||◌, eqb, List, [], ◌∷◌, ◌++◌, length, get_or, take, drop, sym, refl, ap, ◌∙◌, subst, ⊎_elim, arith}
+use Rattle.std.proofs.Common.{◌≡◌, ℕ, ◌+◌, ◌<◌, Bool, true, false, cond, ◌&&◌, ◌||◌, eqb, List, [], ◌∷◌, ◌++◌, map, length, get_or, take, drop, reverse, sym, refl, ap, ◌∙◌, subst, ⊎_elim, arith}
 use mathlib.Core.Path.{fun_ext}
-use Rattle.std.proofs.lemmas.List.{take-append-drop, drop_more}
-use Rattle.std.proofs.lemmas.Bool.{eqb-false, eq-eqb, ne_eqb, or_parts, cases_eq, cases_lt, cond-true, cond-false}
+use Rattle.std.proofs.lemmas.List.{take-append-drop, drop_more, reverse-append, reverse-reverse, append_assoc, map-append, map-id}
+use Rattle.std.proofs.lemmas.Bool.{false≢true, eqb-false, eq-eqb, ne_eqb, or_parts, cases_eq, cases_lt, cond-true, cond-false}
+use Rattle.planner.specs.declared.flow_numbers.FlowNumber.{FlowNumber}
+use Rattle.planner.specs.FlowOrders.{numbers}
 use Rattle.planner.specs.Orders.{Within, Below, plus, has, Orderly, Order}
 use Rattle.planner.specs.Slots.{total, Load, Given, rivals, valid_for, Greedy, Short, Next}
 use Rattle.planner.specs.Placings.{Once, PlacedAlong, ShortAlong, FitsAlong, Crowded}
-use Rattle.planner.proofs.Sets.{has_front, has_later}
+use Rattle.planner.proofs.Sets.{has_front, has_later, has_cases}
 use Rattle.planner.proofs.Steps.{plus_within, total_plus, steps_stand}
 use Rattle.planner.proofs.Runs.{earliest_stands, put, greedy_more, greedy_stands}
 
--- a place of a list that is counted from its end: the flow there, and the flows behind it
-pub has_at : (xs : List ℕ) (i : ℕ) → i < length xs → has xs (get_or xs i 0) ≡ true
-has_at [] i l = absurd (omega arith)
-has_at (x ∷ xs) zero l = has_front x xs
-has_at (x ∷ xs) (suc i) l = has_later x xs (get_or xs i 0) (has_at xs i (omega arith))
+-- a loop over flows from the last to the first, which has seen some and comes to the flow x: the flows are later ones, x, and those seen
+pub turn : (xs seen : List FlowNumber) (x : FlowNumber) → map (λ (y : FlowNumber). y) seen ≡ take (length seen) (reverse xs) →
+    (length seen < length (reverse xs)) × (x ≡ get_or (reverse xs) (length seen) x) → (later : List ℕ) × (numbers xs ≡ later ++ (x.number ∷ numbers (reverse seen)))
+turn xs seen x so next =
+    let n = length seen in
+    let rest = drop (n + 1) (reverse xs) in
+    let front : seen ≡ take n (reverse xs) = sym (map-id seen) ∙ so in
+    let whole : reverse xs ≡ seen ++ (x ∷ rest) =
+    sym (take-append-drop n (reverse xs)) ∙ ap (λ ys. ys ++ drop n (reverse xs)) (sym front) ∙ ap (λ ys. seen ++ ys) (drop_more (reverse xs) n x next.0 ∙ ap (λ y. y ∷ rest) (sym next.1)) in
+    let parts : xs ≡ reverse rest ++ (x ∷ reverse seen) =
+    sym (reverse-reverse xs) ∙ ap reverse whole ∙ reverse-append seen (x ∷ rest) ∙ ap (λ ys. ys ++ reverse seen) (reverse-append (x ∷ []) rest) ∙ append_assoc (reverse rest) (x ∷ []) (reverse seen) in
+    (numbers (reverse rest), ap numbers parts ∙ map-append (λ (y : FlowNumber). y.number) (reverse rest) (x ∷ reverse seen))
 
-once_suc : (xs : List ℕ) (i : ℕ) → Once xs → i < length xs → has (drop (suc i) xs) (get_or xs i 0) ≡ false
-once_suc [] i once l = absurd (omega arith)
-once_suc (x ∷ xs) zero once l = once.0
-once_suc (x ∷ xs) (suc i) once l = once_suc xs i once.1 (omega arith)
-
-pub once_at : (xs : List ℕ) (at : ℕ) → Once xs → 0 < at → at ≤ length xs → has (drop at xs) (get_or xs (at - 1) 0) ≡ false
-once_at xs at once some l = let e : suc (at - 1) ≡ at = omega arith in subst (λ n. has (drop n xs) (get_or xs (at - 1) 0) ≡ false) e (once_suc xs (at - 1) once (omega arith))
-
-pub drop_at : (xs : List ℕ) (at : ℕ) → 0 < at → at ≤ length xs → drop (at - 1) xs ≡ get_or xs (at - 1) 0 ∷ drop at xs
-drop_at xs at some l =
-    let e : at - 1 + 1 ≡ at = omega arith in
-    drop_more xs (at - 1) 0 (omega arith) ∙ ap (λ n. get_or xs (at - 1) 0 ∷ drop n xs) e
+-- the numbers of flows are below 64
+pub numbers_below : (flows : List FlowNumber) → Below 64 (has (numbers flows))
+numbers_below [] f h = absurd (false≢true h)
+numbers_below (x ∷ xs) f h = ⊎_elim (λ (e : f ≡ x.number). subst (λ n. n < 64) (sym e) x.below) (λ rest. numbers_below xs f rest) (has_cases x.number (numbers xs) f h)
 
 -- the end of a list
 module _ (f : ℕ) (es : List ℕ) where
+  pub once_end : (later : List ℕ) → Once (later ++ (f ∷ es)) → has es f ≡ false
+  once_end [] once = once.0
+  once_end (x ∷ later) once = once_end later once.1
+
   has_end : (later : List ℕ) (g : ℕ) → has (f ∷ es) g ≡ true → has (later ++ (f ∷ es)) g ≡ true
   has_end [] g h = h
   has_end (x ∷ later) g h = has_later x (later ++ (f ∷ es)) g (has_end later g h)
@@ -77,24 +82,19 @@ plus_is true x = refl
 plus_is false x = refl
 
 -- a flow that is short
-pub short_at : (load : Load) (xs : List ℕ) (at : ℕ) (t : ℕ → ℕ → Bool) (group : ℕ → Bool) → 0 < at → at ≤ length xs → Below load.flows (has xs) → PlacedAlong load (drop at xs) t →
-    Short load t (get_or xs (at - 1) 0) (drop at xs) → ((g : ℕ) → group g ≡ plus (rivals load (get_or xs (at - 1) 0) (drop at xs)) (get_or xs (at - 1) 0) g) → ShortAlong load xs group
-short_at load xs at t group some l b so few is =
-    let f = get_or xs (at - 1) 0 in
-    let es = drop at xs in
-    let later = take (at - 1) xs in
-    let parts : xs ≡ later ++ (f ∷ es) = sym (take-append-drop (at - 1) xs) ∙ ap (λ ys. later ++ ys) (drop_at xs at some l) in
-    record {
-      later = later;
-      flow = f;
-      earlier = es;
-      parts = parts;
-      table = t;
-      placed = so;
-      short = few;
-      group_is = is;
-      next = next_end f es load t xs later parts b so.greedy;
-    }
+pub short_at : (load : Load) (xs later : List ℕ) (f : ℕ) (es : List ℕ) (t : ℕ → ℕ → Bool) (group : ℕ → Bool) → xs ≡ later ++ (f ∷ es) → Below load.flows (has xs) → PlacedAlong load es t →
+    Short load t f es → ((g : ℕ) → group g ≡ plus (rivals load f es) f g) → ShortAlong load xs group
+short_at load xs later f es t group parts b so few is = record {
+  later = later;
+  flow = f;
+  earlier = es;
+  parts = parts;
+  table = t;
+  placed = so;
+  short = few;
+  group_is = is;
+  next = next_end f es load t xs later parts b so.greedy;
+}
 
 -- what the outcome says of a set of which the list is an order
 module _ (load : Load) (p : ℕ → Bool) (xs : List ℕ) (b : Below load.flows (has xs)) (order : Order load.overlap p xs) where

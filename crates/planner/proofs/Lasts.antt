@@ -1,6 +1,6 @@
 -- Which flow may come last, by the group of the flows that overlap it.
-use Rattle.std.proofs.Common.{◌≡◌, ℕ, ◌-◌, ◌≤◌, Bool, true, false, cond, ◌&&◌, T, eqb, sym, refl, ap, ◌∙◌, subst, ⊎_elim, arith}
-use Rattle.std.proofs.lemmas.Bool.{and_parts, and_from, cases_eq, eq-eqb, ne_eqb, cond-true, cond-false}
+use Rattle.std.proofs.Common.{◌≡◌, ℕ, Bool, true, false, cond, ◌&&◌, T, eqb, sym, refl, ap, ◌∙◌, subst, ⊎_elim}
+use Rattle.std.proofs.lemmas.Bool.{false≢true, and_parts, and_from, cases_eq, eq-eqb, ne_eqb, cond-true, cond-false}
 use Rattle.planner.specs.Orders.{without, beside, MayComeLast}
 use Rattle.planner.proofs.Sets.{without_from, without_parts, tells_apart}
 
@@ -30,9 +30,20 @@ module _ (ov : ℕ → ℕ → Bool) (apart : (f : ℕ) → ov f f ≡ false) (p
   pub not_last : (g : ℕ) → b g ≡ true → (OverlapsRest ov b g → ⊥) → MayComeLast ov p f → ⊥
   not_last g bg no' last = no' (λ h bh ne. last.1 g h (to_beside g bg) (to_beside h bh) ne)
 
--- a search from above that passes one number more
-pub pass : (P : ℕ → Type 0) (n : ℕ) → ((f : ℕ) → n ≤ f → P f → ⊥) → (P (n - 1) → ⊥) → (f : ℕ) → n - 1 ≤ f → P f → ⊥
-pass P n none here f l h = ⊎_elim (λ (e : f ≡ n - 1). here (subst P e h)) (λ ne. none f (omega arith) h) (cases_eq f (n - 1))
+kept : (b x : Bool) → cond b false x ≡ true → x ≡ true
+kept true x e = absurd (false≢true e)
+kept false x e = e
+
+-- q' is q without f, which was passed
+module _ (q q' : ℕ → Bool) (f : ℕ) (taken : (k : ℕ) → q' k ≡ cond (eqb k f) false (q k)) where
+  pub still_in : (k : ℕ) → q' k ≡ true → q k ≡ true
+  still_in k h = kept (eqb k f) (q k) (sym (taken k) ∙ h)
+
+  pub passed : (P : ℕ → Type 0) → ((k : ℕ) → q k ≡ false → P k) → P f → (k : ℕ) → q' k ≡ false → P k
+  passed P before here k out = ⊎_elim
+      (λ (e : k ≡ f). subst P (sym e) here)
+      (λ ne. before k (sym (taken k ∙ cond-false (eqb k f) false (q k) (ne_eqb k f ne)) ∙ out))
+      (cases_eq k f)
 
 pub is_true : (t : Bool) → T t → t ≡ true
 is_true true t = refl

@@ -6,6 +6,7 @@ ghost use Rattle.planner.specs.Groups.{overlapping};
 ghost use Rattle.planner.specs.LinkSets.{crossing, share};
 
 use crate::bookings::Booking;
+use crate::flow_numbers::FlowNumber;
 use crate::flow_sets::FlowSet;
 use crate::link_sets::LinkSet;
 use crate::overlaps::Overlaps;
@@ -17,7 +18,7 @@ pub(crate) fn flows_of(bookings: &[Option<Booking>; 64]) -> FlowSet
     let mut flows = FlowSet::empty();
     for n in 0..64u8 {
         if bookings[n as usize].is_some() {
-            flows.insert(n);
+            flows.insert(FlowNumber { number: n });
         }
     }
     flows
@@ -44,7 +45,7 @@ pub(crate) fn met_by(bookings: &[Option<Booking>; 64], links: &LinkSet) -> FlowS
     for n in 0..64u8 {
         if let Some(booking) = bookings[n as usize] {
             if links.meets(&booking.links) {
-                met.insert(n);
+                met.insert(FlowNumber { number: n });
             }
         }
     }
@@ -59,7 +60,7 @@ pub(crate) fn overlaps_of(bookings: &[Option<Booking>; 64]) -> Overlaps
     for n in 0..64u8 {
         if let Some(booking) = bookings[n as usize] {
             let mut group = met_by(bookings, &booking.links);
-            group.remove(n);
+            group.remove(FlowNumber { number: n });
             groups[n as usize] = group;
         }
     }

@@ -7,10 +7,12 @@ ghost use Rattle.planner.specs.declared.calls.Call.TheVariants.{Enrol, Admit, Wi
 
 use crate::booked::met_by;
 use crate::bookings::Booking;
+use crate::flow_numbers::FlowNumber;
 use crate::flows::Flow;
 use crate::link_sets::LinkSet;
 use crate::plan_faults::PlanFault;
 use crate::plans::Plan;
+use crate::slot_requests::SlotRequest;
 use crate::states::{Resting, Running};
 use fabric::Fabric;
 
@@ -36,12 +38,17 @@ impl<F: Fabric> Plan<F, Running> {
         self.may_book(number, flow)?;
         let links = LinkSet::of_route(&self.fabric, flow.ends);
         let beside = met_by(&self.bookings, &links);
-        if !self
-            .table
-            .give(number as u8, beside, flow.demand, self.period.slots)
-        {
-            return Err(PlanFault::TooFewSlots);
-        }
+        let request = SlotRequest {
+            flow: FlowNumber {
+                number: number as u8,
+            },
+            beside,
+            demand: flow.demand,
+            period: self.period.slots,
+        };
+        self.table
+            .give(request)
+            .map_err(|_| PlanFault::TooFewSlots)?;
         self.bookings[number as usize] = Some(Booking { flow, links });
         Ok(())
     }
@@ -90,7 +97,10 @@ impl<F: Fabric, S> Plan<F, S> {
         if !self.is_booked(number) {
             return Err(PlanFault::NotBooked);
         }
-        self.table.clear(number as u8);
+        let leaving = FlowNumber {
+            number: number as u8,
+        };
+        self.table.clear(leaving);
         self.bookings[number as usize] = None;
         Ok(())
     }

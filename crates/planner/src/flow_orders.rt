@@ -1,11 +1,13 @@
 //! Orders of flows, as they are kept. The struct stands alone: definitions that contracts cite name it.
-ghost use Rattle.std.specs.Prelude.{ℕ, ◌<◌, ◌≤◌, slice_index};
+ghost use Rattle.std.specs.Prelude.{◌≤◌};
+
+use crate::flow_numbers::FlowNumber;
 
 /// Flows in an order, kept from its end: the flow that comes last stands at 0.
 #[derive(Clone, Copy)]
 pub struct FlowOrder {
-    pub(crate) numbers: [u8; 64],
+    // An order is Copy, which an ArrayVec is not, so its flows are kept in an array with their count.
+    pub(crate) flows: [FlowNumber; 64],
     pub(crate) count: u8,
     ghost few: { count ≤ 64 },
-    ghost below: { (k : ℕ) → slice_index numbers k < 64 },
 }

@@ -2,6 +2,8 @@
 ghost use Rattle.std.specs.Prelude.{◌≡◌, ℕ, ◌<◌, true, false, not, ◌&&◌, T, if◌then◌else◌, MatchOption, nat_eq, slice_index_or};
 ghost use Rattle.planner.specs.FlowSets.{bit, members};
 
+use crate::flow_numbers::FlowNumber;
+
 /// A set of flows, also called a group: a 64-bit number whose bit n stands for flow n.
 #[derive(Clone, Copy)]
 pub struct FlowSet(u64);
@@ -14,45 +16,52 @@ impl FlowSet {
         FlowSet(0)
     }
 
-    pub(crate) fn contains(self, n: u8) -> bool
-        requires { n < 64 }
-        ensures { result ≡ members self n }
+    pub(crate) fn contains(self, flow: FlowNumber) -> bool
+        ensures { result ≡ members self flow.number }
     {
-        (self.0 >> n) & 1 == 1
+        (self.0 >> flow.number) & 1 == 1
     }
 
     /// Whether the flow of this number is in the set; no for a number that no flow has.
     pub fn contains_flow(self, number: u16) -> bool
         ensures { result ≡ members self number }
     {
-        number < 64 && self.contains(number as u8)
+        FlowNumber::new(number).is_some_and(|flow| self.contains(flow))
     }
 
-    pub(crate) fn insert(&mut self, n: u8)
-        requires { n < 64 }
-        ensures { (k : ℕ) → members self.new k ≡ (if nat_eq k n then true else members self.old k) }
+    pub(crate) fn insert(&mut self, flow: FlowNumber)
+        ensures { (k : ℕ) → members self.new k ≡ (if nat_eq k flow.number then true else members self.old k) }
     {
-        self.0 |= 1u64 << n;
+        self.0 |= 1u64 << flow.number;
     }
 
-    pub(crate) fn remove(&mut self, n: u8)
-        requires { n < 64 }
-        ensures { (k : ℕ) → members self.new k ≡ (if nat_eq k n then false else members self.old k) }
+    pub(crate) fn remove(&mut self, flow: FlowNumber)
+        ensures { (k : ℕ) → members self.new k ≡ (if nat_eq k flow.number then false else members self.old k) }
     {
         let s = self.0;
-        self.0 = s & !(1u64 << n);
+        self.0 = s & !(1u64 << flow.number);
     }
 
-    /// Takes the highest flow out of the set and gives its number; None from the empty set, which stays empty.
-    pub(crate) fn take_highest(&mut self) -> Option<u8>
-        ensures { MatchOption result (((k : ℕ) → members self.old k ≡ false) × (self.new ≡ self.old)) (λ n. (n < 64) × (members self.old n ≡ true) × ((k : ℕ) → n < k → members self.old k ≡ false) × ((k : ℕ) → members self.new k ≡ (if nat_eq k n then false else members self.old k))) }
+    /// Takes the highest flow out of the set; None from the empty set, which stays empty.
+    pub(crate) fn take_highest(&mut self) -> Option<FlowNumber>
+        ensures { MatchOption result (((k : ℕ) → members self.old k ≡ false) × (self.new ≡ self.old)) (λ flow. (members self.old flow.number ≡ true) × ((k : ℕ) → flow.number < k → members self.old k ≡ false) × ((k : ℕ) → members self.new k ≡ (if nat_eq k flow.number then false else members self.old k))) }
     {
         if self.0 == 0 {
             return None;
         }
-        let highest = (63 - self.0.leading_zeros()) as u8;
+        let highest = FlowNumber {
+            number: (63 - self.0.leading_zeros()) as u8,
+        };
         self.remove(highest);
         Some(highest)
+    }
+
+    /// The set, and the flow.
+    pub(crate) fn with(mut self, flow: FlowNumber) -> FlowSet
+        ensures { (k : ℕ) → members result k ≡ (if nat_eq k flow.number then true else members self k) }
+    {
+        self.insert(flow);
+        self
     }
 
     pub(crate) fn intersects(self, other: FlowSet) -> bool
@@ -100,11 +109,10 @@ impl FlowSet {
 }
 
 /// Takes a flow out of every one of the sets.
-pub(crate) fn remove_from_all(sets: &mut [FlowSet], n: u8)
-    requires { n < 64 }
-    ensures { (i k : ℕ) → members (slice_index_or sets.new i (record { 0 = 0 })) k ≡ (if nat_eq k n then false else members (slice_index_or sets.old i (record { 0 = 0 })) k) }
+pub(crate) fn remove_from_all(sets: &mut [FlowSet], flow: FlowNumber)
+    ensures { (i k : ℕ) → members (slice_index_or sets.new i (record { 0 = 0 })) k ≡ (if nat_eq k flow.number then false else members (slice_index_or sets.old i (record { 0 = 0 })) k) }
 {
     for set in sets.iter_mut() {
-        set.remove(n);
+        set.remove(flow);
     }
 }

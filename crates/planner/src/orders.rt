@@ -1,10 +1,11 @@
 //! Orders of flows, chosen from their end.
 ghost use Rattle.std.specs.Prelude.{◌≡◌, ℕ, ◌+◌, ◌<◌, ◌≤◌, true, [], ◌∷◌, ◌++◌, length, Decides, MatchOption, ◌≢◌, slice_index};
-ghost use Rattle.planner.specs.FlowOrders.{listed, ComesTo};
+ghost use Rattle.planner.specs.FlowOrders.{numbers, listed, ComesTo};
 ghost use Rattle.planner.specs.FlowSets.{members};
 ghost use Rattle.planner.specs.Groups.{overlapping};
 ghost use Rattle.planner.specs.Orders.{MayComeLast, ChosenLast};
 
+use crate::flow_numbers::FlowNumber;
 use crate::flow_orders::FlowOrder;
 use crate::flow_sets::FlowSet;
 use crate::overlaps::Overlaps;
@@ -14,44 +15,45 @@ impl FlowOrder {
         ensures { (listed result ≡ []) × (result.count ≡ 0) }
     {
         FlowOrder {
-            numbers: [0; 64],
+            flows: [FlowNumber { number: 0 }; 64],
             count: 0,
         }
     }
 
     /// Puts a flow before those that the order has.
-    fn put_first(&mut self, flow: u8)
-        requires { (flow < 64) × (self.old.count < 64) }
-        ensures { (listed self.new ≡ listed self.old ++ flow ∷ []) × (self.new.count ≡ self.old.count + 1) }
+    fn put_first(&mut self, flow: FlowNumber)
+        requires { self.old.count < 64 }
+        ensures { (listed self.new ≡ listed self.old ++ flow.number ∷ []) × (self.new.count ≡ self.old.count + 1) }
     {
-        let place = self.count;
-        self.numbers[place as usize] = flow;
-        self.count = place + 1;
+        self.flows[usize::from(self.count)] = flow;
+        self.count += 1;
     }
 
     /// How many flows the order has.
     pub fn len(&self) -> usize
         ensures { result ≡ length (listed self.now) }
     {
-        self.count as usize
+        usize::from(self.count)
+    }
+
+    /// The flows of the order, the last at the front.
+    pub(crate) fn as_slice(&self) -> &[FlowNumber]
+        ensures { numbers result.now ≡ listed self.now }
+    {
+        &self.flows[..self.len()]
     }
 
     /// The flow at a place, counted from the end of the order: the one that comes last is at 0. None past the first.
     pub fn from_end(&self, place: usize) -> Option<u8>
         ensures { MatchOption result (length (listed self.now) ≤ place) (λ f. (place < length (listed self.now)) × (f ≡ slice_index (listed self.now) place)) }
     {
-        if place < self.len() {
-            Some(self.numbers[place])
-        } else {
-            None
-        }
+        self.as_slice().get(place).map(|flow| flow.get())
     }
 }
 
 /// Whether the flow overlaps each other flow of the group.
-fn overlaps_rest(flow: u8, group: FlowSet, overlaps: &Overlaps) -> bool
-    requires { flow < 64 }
-    ensures { Decides result ((g : ℕ) → members group g ≡ true → (flow ≢ g) → overlapping overlaps.now.groups flow g ≡ true) }
+fn overlaps_rest(flow: FlowNumber, group: FlowSet, overlaps: &Overlaps) -> bool
+    ensures { Decides result ((g : ℕ) → members group g ≡ true → (flow.number ≢ g) → overlapping overlaps.now.groups flow.number g ≡ true) }
 {
     let mut others = group;
     others.remove(flow);
@@ -60,24 +62,21 @@ fn overlaps_rest(flow: u8, group: FlowSet, overlaps: &Overlaps) -> bool
 
 /// The flow that comes last: the highest that may. A flow may come last if the flows that overlap it all overlap, which
 /// is asked of each of them by one step over a whole group.
-pub(crate) fn last_of(flows: FlowSet, overlaps: &Overlaps) -> Option<u8>
-    ensures { MatchOption result ((f : ℕ) → MayComeLast (overlapping overlaps.now.groups) (members flows) f → ⊥) (λ f. (f < 64) × ChosenLast (overlapping overlaps.now.groups) (members flows) f) }
+pub(crate) fn last_of(flows: FlowSet, overlaps: &Overlaps) -> Option<FlowNumber>
+    ensures { MatchOption result ((f : ℕ) → MayComeLast (overlapping overlaps.now.groups) (members flows) f → ⊥) (λ flow. ChosenLast (overlapping overlaps.now.groups) (members flows) flow.number) }
 {
-    let mut found = None;
-    'search: for flow in (0..64u8).rev() {
-        if !flows.contains(flow) {
-            continue;
-        }
+    let mut candidates = flows;
+    'search: while let Some(flow) = candidates.take_highest() {
         let beside = overlaps.group(flow).intersection(flows);
-        for other in 0..64u8 {
-            if beside.contains(other) && !overlaps_rest(other, beside, overlaps) {
+        let mut others = beside;
+        while let Some(other) = others.take_highest() {
+            if !overlaps_rest(other, beside, overlaps) {
                 continue 'search;
             }
         }
-        found = Some(flow);
-        break 'search;
+        return Some(flow);
     }
-    found
+    None
 }
 
 /// The order of the flows that is chosen from its end: the flow that comes last is put aside, and the same is
@@ -108,12 +107,15 @@ mod tests {
     fn choice(count: u8, pairs: &[(u8, u8)]) -> Result<FlowOrder, FlowSet> {
         let mut overlaps = Overlaps::none();
         for (one, other) in pairs {
-            if *one < 64 && *other < 64 && *one != *other {
-                overlaps.join(*one, *other);
+            if let Some(one) = FlowNumber::new(u16::from(*one))
+                && let Some(other) = FlowNumber::new(u16::from(*other))
+                && one != other
+            {
+                overlaps.join(one, other);
             }
         }
         let mut flows = FlowSet::empty();
-        for flow in 0..count.min(64) {
+        for flow in (0..u16::from(count)).map_while(FlowNumber::new) {
             flows.insert(flow);
         }
         chosen_order(flows, &overlaps)

@@ -3,6 +3,7 @@ ghost use Rattle.std.specs.Prelude.{◌≡◌, ℕ, ◌<◌, false, ◌||◌, if
 ghost use Rattle.planner.specs.FlowSets.{members};
 ghost use Rattle.planner.specs.Groups.{overlapping, is_pair};
 
+use crate::flow_numbers::FlowNumber;
 use crate::flow_sets::{FlowSet, remove_from_all};
 
 /// For each flow the group of the flows that overlap it. Overlap is mutual, and no flow overlaps itself.
@@ -25,30 +26,26 @@ impl Overlaps {
     }
 
     /// The flows that overlap a flow.
-    pub(crate) fn group(&self, flow: u8) -> FlowSet
-        requires { flow < 64 }
-        ensures { (g : ℕ) → members result g ≡ overlapping self.now.groups flow g }
+    pub(crate) fn group(&self, flow: FlowNumber) -> FlowSet
+        ensures { (g : ℕ) → members result g ≡ overlapping self.now.groups flow.number g }
     {
-        self.groups[flow as usize]
+        self.groups[usize::from(flow)]
     }
 
     /// Two flows overlap from now on.
-    pub(crate) fn join(&mut self, one: u8, other: u8)
-        requires one_bound { one < 64 }
-        requires other_bound { other < 64 }
-        requires two_flows { one ≢ other }
-        ensures { (f g : ℕ) → overlapping self.new.groups f g ≡ (is_pair one other f g || overlapping self.old.groups f g) }
+    pub(crate) fn join(&mut self, one: FlowNumber, other: FlowNumber)
+        requires { one.number ≢ other.number }
+        ensures { (f g : ℕ) → overlapping self.new.groups f g ≡ (is_pair one.number other.number f g || overlapping self.old.groups f g) }
     {
-        self.groups[one as usize].insert(other);
-        self.groups[other as usize].insert(one);
+        self.groups[usize::from(one)].insert(other);
+        self.groups[usize::from(other)].insert(one);
     }
 
     /// A flow overlaps nothing from now on.
-    pub(crate) fn part(&mut self, flow: u8)
-        requires { flow < 64 }
-        ensures { (f g : ℕ) → overlapping self.new.groups f g ≡ (if nat_eq f flow || g == flow then false else overlapping self.old.groups f g) }
+    pub(crate) fn part(&mut self, flow: FlowNumber)
+        ensures { (f g : ℕ) → overlapping self.new.groups f g ≡ (if nat_eq f flow.number || g == flow.number then false else overlapping self.old.groups f g) }
     {
         remove_from_all(&mut self.groups, flow);
-        self.groups[flow as usize] = FlowSet::empty();
+        self.groups[usize::from(flow)] = FlowSet::empty();
     }
 }

@@ -1,47 +1,47 @@
 //! Placing flows along an order.
+ghost use Rattle.planner.specs.FlowOrders.{numbers};
 ghost use Rattle.planner.specs.Loads.{load_of};
-ghost use Rattle.planner.specs.Orders.{Below, has};
 ghost use Rattle.planner.specs.Placings.{Once, Outcome, Verdict};
 
+use crate::flow_numbers::FlowNumber;
 use crate::flow_sets::FlowSet;
-use crate::overlaps::Overlaps;
+use crate::loads::FlowLoad;
+use crate::slot_requests::SlotRequest;
 use crate::slots::SlotTable;
 
-/// Places the flows of a list, from its end to its front, each in the earliest slots that no flow before it that overlaps it holds.
-/// Where a flow finds too few it stops, with the group of that flow and the flows before it that overlap it.
-///
-/// Along an order the table is a placing; and where it stops, the group's flows all overlap one another, together they demand more than
-/// the period, and no placing exists.
-pub(crate) fn place_along(
-    order: &[u8],
-    overlaps: &Overlaps,
-    demands: &[u16; 64],
-    period: u8,
-) -> Result<SlotTable, FlowSet>
-    requires below { Below 64 (has order.now) }
-    requires once { Once order.now }
-    ensures outcome { Outcome (load_of overlaps.now demands.now period) order.now result }
-    ensures verdict { Verdict (load_of overlaps.now demands.now period) order.now result }
-{
-    let mut table = SlotTable::empty();
-    let mut placed = FlowSet::empty();
-    for at in (0..order.len()).rev() {
-        let flow = order[at];
-        let overlapping = overlaps.group(flow);
-        let rivals = placed.intersection(overlapping);
-        if !table.give(flow, rivals, demands[flow as usize], period) {
-            let mut group = rivals;
-            group.insert(flow);
-            return Err(group);
+impl FlowLoad {
+    /// Places the flows of a list, from its end to its front, each in the earliest slots that no flow before it that overlaps it
+    /// holds. Where a flow finds too few it stops, with the group of that flow and the flows before it that overlap it.
+    ///
+    /// Along an order the table is a placing; and where it stops, the group's flows all overlap one another, together they demand
+    /// more than the period, and no placing exists.
+    pub(crate) fn place_along(&self, order: &[FlowNumber]) -> Result<SlotTable, FlowSet>
+        requires { Once (numbers order.now) }
+        ensures outcome { Outcome (load_of self.now.overlaps self.now.demands self.now.period) (numbers order.now) result }
+        ensures verdict { Verdict (load_of self.now.overlaps self.now.demands self.now.period) (numbers order.now) result }
+    {
+        let mut table = SlotTable::empty();
+        let mut placed = FlowSet::empty();
+        for flow in order.iter().rev().copied() {
+            let rivals = placed.intersection(self.overlaps.group(flow));
+            table
+                .give(SlotRequest {
+                    flow,
+                    beside: rivals,
+                    demand: self.demands[usize::from(flow)],
+                    period: self.period,
+                })
+                .map_err(|_| rivals.with(flow))?;
+            placed.insert(flow);
         }
-        placed.insert(flow);
+        Ok(table)
     }
-    Ok(table)
 }
 
 #[cfg(test)]
 mod tests {
     use super::*;
+    use crate::overlaps::Overlaps;
     use std::test::Fail;
 
     // Eleven flows, numbered from 1. Bit k of an entry: the flow crosses link k, and two flows overlap if they share a link.
@@ -62,7 +62,19 @@ mod tests {
 
     const DEMANDS: [u16; 12] = [0, 2, 2, 3, 1, 6, 7, 7, 1, 4, 4, 4];
 
-    const ORDER: [u8; 11] = [11, 10, 9, 8, 7, 6, 5, 4, 3, 2, 1];
+    const ORDER: [FlowNumber; 11] = [
+        FlowNumber { number: 11 },
+        FlowNumber { number: 10 },
+        FlowNumber { number: 9 },
+        FlowNumber { number: 8 },
+        FlowNumber { number: 7 },
+        FlowNumber { number: 6 },
+        FlowNumber { number: 5 },
+        FlowNumber { number: 4 },
+        FlowNumber { number: 3 },
+        FlowNumber { number: 2 },
+        FlowNumber { number: 1 },
+    ];
 
     // Bit s of an entry: the flow holds slot s.
     const HELD: [u8; 12] = [
@@ -85,7 +97,7 @@ mod tests {
         for one in 1..12u8 {
             for other in 1..one {
                 if CROSSES[one as usize] & CROSSES[other as usize] != 0 {
-                    overlaps.join(one, other);
+                    overlaps.join(FlowNumber { number: one }, FlowNumber { number: other });
                 }
             }
         }
@@ -94,13 +106,18 @@ mod tests {
 
     // The placing of the eleven flows in a period of eight slots, with a demand of its own for flow 2.
     fn placed(second: u16) -> Result<SlotTable, FlowSet> {
-        let overlaps = eleven_overlaps();
         let mut demands = [0u16; 64];
         for flow in 0..12usize {
             demands[flow] = DEMANDS[flow];
         }
         demands[2] = second;
-        place_along(&ORDER, &overlaps, &demands, 8)
+        let load = FlowLoad {
+            flows: FlowSet::empty(),
+            overlaps: eleven_overlaps(),
+            demands,
+            period: 8,
+        };
+        load.place_along(&ORDER)
     }
 
     #[test]

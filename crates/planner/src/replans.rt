@@ -8,10 +8,8 @@ ghost use Rattle.planner.specs.Steps.{Step};
 ghost use Rattle.planner.specs.declared.calls.Call.TheVariants.{Replan};
 
 use crate::booked::{demands_of, flows_of, overlaps_of};
-use crate::flow_sets::FlowSet;
-use crate::overlaps::Overlaps;
+use crate::loads::FlowLoad;
 use crate::plan_faults::PlanFault;
-use crate::planning::place_all;
 use crate::plans::Plan;
 use crate::slots::SlotTable;
 use crate::states::Resting;
@@ -19,15 +17,10 @@ use crate::unplaced::Unplaced;
 use fabric::Fabric;
 
 /// Places the booked flows along their chosen order; where they have none, or no placing, the refusal has its number.
-fn place_booked(
-    flows: FlowSet,
-    overlaps: &Overlaps,
-    demands: &[u16; 64],
-    period: u8,
-) -> Result<SlotTable, PlanFault>
-    ensures { PlacedOrRefused (load_of overlaps.now demands.now period) (members flows) result }
+fn place_booked(load: &FlowLoad) -> Result<SlotTable, PlanFault>
+    ensures { PlacedOrRefused (load_of load.now.overlaps load.now.demands load.now.period) (members load.now.flows) result }
 {
-    match place_all(flows, overlaps, demands, period) {
+    match load.place() {
         Ok(table) => Ok(table),
         Err(Unplaced::NoOrder(group)) => Err(PlanFault::NoOrder(group)),
         Err(Unplaced::NoPlacing(group)) => Err(PlanFault::NoPlacing(group)),
@@ -43,7 +36,13 @@ impl<F: Fabric> Plan<F, Resting> {
         let flows = flows_of(&self.bookings);
         let overlaps = overlaps_of(&self.bookings);
         let demands = demands_of(&self.bookings);
-        self.table = place_booked(flows, &overlaps, &demands, self.period.slots)?;
+        let load = FlowLoad {
+            flows,
+            overlaps,
+            demands,
+            period: self.period.slots,
+        };
+        self.table = place_booked(&load)?;
         Ok(())
     }
 }

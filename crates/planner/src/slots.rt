@@ -1,10 +1,12 @@
 //! The table of slots: which flow holds which slot. Contracts speak only of what a flow holds.
-ghost use Rattle.std.specs.Prelude.{◌≡◌, ℕ, ◌<◌, ◌≤◌, true, false, ◌&&◌, if◌then◌else◌, ◌==◌, nat_eq};
+ghost use Rattle.std.specs.Prelude.{◌≡◌, ℕ, ◌<◌, ◌≤◌, true, false, ◌&&◌, if◌then◌else◌, ◌==◌, nat_eq, MatchResult};
 ghost use Rattle.planner.specs.FlowSets.{members};
 ghost use Rattle.planner.specs.Slots.{count, free, Given};
 ghost use Rattle.planner.specs.Tables.{holds};
 
+use crate::flow_numbers::FlowNumber;
 use crate::flow_sets::{FlowSet, remove_from_all};
+use crate::slot_requests::{SlotRequest, TooFew};
 
 /// For each slot the flows that hold it, so that one AND tells whether a slot is valid.
 #[derive(Clone, Copy)]
@@ -34,9 +36,8 @@ impl SlotTable {
     }
 
     /// The flow gives up all its slots.
-    pub(crate) fn clear(&mut self, flow: u8)
-        requires { flow < 64 }
-        ensures { (f s : ℕ) → holds self.new f s ≡ (if nat_eq f flow then false else holds self.old f s) }
+    pub(crate) fn clear(&mut self, flow: FlowNumber)
+        ensures { (f s : ℕ) → holds self.new f s ≡ (if nat_eq f flow.number then false else holds self.old f s) }
     {
         remove_from_all(&mut self.slots, flow);
     }
@@ -50,7 +51,7 @@ impl SlotTable {
     }
 
     /// How many slots of the period no flow of `beside` holds.
-    pub(crate) fn valid_count(&self, beside: FlowSet, period: u8) -> u16
+    fn valid_count(&self, beside: FlowSet, period: u8) -> u16
         ensures { result ≡ count (free (holds self.now) 64 (members beside)) period }
     {
         let mut valid = 0;
@@ -62,46 +63,42 @@ impl SlotTable {
         valid
     }
 
-    /// Gives the flow its earliest valid slots, `demand` of them. Where there are too few it answers false, and nothing changes.
-    pub(crate) fn give(&mut self, flow: u8, beside: FlowSet, demand: u16, period: u8) -> bool
-        requires flow_bound { flow < 64 }
-        requires holds_nothing { (s : ℕ) → holds self.old flow s ≡ false }
-        requires not_beside { members beside flow ≡ false }
-        ensures given { result ≡ true → Given (holds self.old) (holds self.new) 64 flow (members beside) demand period }
-        ensures refused { result ≡ false → (self.new ≡ self.old) × (count (free (holds self.old) 64 (members beside)) period < demand) }
+    /// Gives the flow its earliest valid slots, as many as it demands. Refused where there are too few, and then nothing changes.
+    pub(crate) fn give(&mut self, request: SlotRequest) -> Result<(), TooFew>
+        requires { (s : ℕ) → holds self.old request.flow.number s ≡ false }
+        ensures { MatchResult result
+            (λ _. Given (holds self.old) (holds self.new) 64 request.flow.number (members request.beside) request.demand request.period)
+            (λ _. (self.new ≡ self.old) × (count (free (holds self.old) 64 (members request.beside)) request.period < request.demand)) }
     {
-        if self.valid_count(beside, period) < demand {
-            return false;
+        if self.valid_count(request.beside, request.period) < request.demand {
+            return Err(TooFew);
         }
-        self.take_earliest(flow, beside, demand, period);
-        true
+        self.take_earliest(request);
+        Ok(())
     }
 
     /// The giving pass, which stops once the demand is met.
-    fn take_earliest(&mut self, flow: u8, beside: FlowSet, demand: u16, period: u8)
-        requires flow_bound { flow < 64 }
-        requires holds_nothing { (s : ℕ) → holds self.old flow s ≡ false }
-        requires not_beside { members beside flow ≡ false }
-        requires enough { demand ≤ count (free (holds self.old) 64 (members beside)) period }
-        ensures { Given (holds self.old) (holds self.new) 64 flow (members beside) demand period }
+    fn take_earliest(&mut self, request: SlotRequest)
+        requires holds_nothing { (s : ℕ) → holds self.old request.flow.number s ≡ false }
+        requires enough { request.demand ≤ count (free (holds self.old) 64 (members request.beside)) request.period }
+        ensures { Given (holds self.old) (holds self.new) 64 request.flow.number (members request.beside) request.demand request.period }
     {
-        let mut left = demand;
-        for slot in 0..period {
+        let mut left = request.demand;
+        for slot in 0..request.period {
             if left == 0 {
                 return;
             }
-            if self.is_valid(slot, beside) {
-                self.mark(flow, slot);
+            if self.is_valid(slot, request.beside) {
+                self.mark(request.flow, slot);
                 left -= 1;
             }
         }
     }
 
     /// The flow takes the slot.
-    fn mark(&mut self, flow: u8, slot: u8)
-        requires flow_bound { flow < 64 }
-        requires slot_bound { slot < 255 }
-        ensures { (f s : ℕ) → holds self.new f s ≡ (if nat_eq f flow && s == slot then true else holds self.old f s) }
+    fn mark(&mut self, flow: FlowNumber, slot: u8)
+        requires { slot < 255 }
+        ensures { (f s : ℕ) → holds self.new f s ≡ (if nat_eq f flow.number && s == slot then true else holds self.old f s) }
     {
         self.slots[slot as usize].insert(flow);
     }

@@ -17,13 +17,13 @@ loop-flow-init c =
 pub put_first-requires : goal.put_first-requires
 put_first-requires c =
     let last = c.in-Some.ensures in
-    let some = total_without (λ _. 1) (members c.loop-flow.rest) c.in-Some.flow 64 last.0 last.1.0.0 in
-    (last.0, omega arith)
+    let some = total_without (λ _. 1) (members c.loop-flow.rest) c.in-Some.flow.number 64 c.in-Some.flow.below last.0.0 in
+    omega arith
 
 pub loop-flow-smaller : goal.loop-flow-smaller
 loop-flow-smaller c =
     let last = c.in-Some.ensures in
-    let fewer = one_fewer (members c.loop-flow.rest) (members c.remove.new.self) c.in-Some.flow c.remove.ensures 64 last.0 last.1.0.0 in
+    let fewer = one_fewer (members c.loop-flow.rest) (members c.remove.new.self) c.in-Some.flow.number c.remove.ensures 64 c.in-Some.flow.below last.0.0 in
     omega arith
 
 pub loop-flow-preserved : goal.loop-flow-preserved
@@ -31,11 +31,11 @@ loop-flow-preserved c =
     let ov = overlapping c.args.overlaps.now.groups in
     let q = members c.loop-flow.rest in
     let r = members c.remove.new.self in
-    let f = c.in-Some.flow in
+    let f = c.in-Some.flow.number in
     let last = c.in-Some.ensures in
-    let fewer = one_fewer q r f c.remove.ensures 64 last.0 last.1.0.0 in (
+    let fewer = one_fewer q r f c.remove.ensures 64 c.in-Some.flow.below last.0.0 in (
       took_more q r f c.remove.ensures ov (members c.args.flows) (listed c.loop-flow.order) (listed c.put_first.new.self)
-          c.loop-flow.invariant.0 last.1 c.put_first.ensures.0,
+          c.loop-flow.invariant.0 last c.put_first.ensures.0,
       omega arith,
     )
 

@@ -10,6 +10,6 @@ returns c =
     let b = members c.args.group in
     let rest = members c.remove.new.self in
     let u = members c.group.result in (
-      λ e. within_rest ov b rest u c.args.flow c.remove.ensures c.group.ensures (c.subset.ensures.within (subst T (sym e) tt)),
-      λ all. is_true c.subset.result (c.subset.ensures.only (λ g _. rest_within ov b rest u c.args.flow c.remove.ensures c.group.ensures all g)),
+      λ e. within_rest ov b rest u c.args.flow.number c.remove.ensures c.group.ensures (c.subset.ensures.within (subst T (sym e) tt)),
+      λ all. is_true c.subset.result (c.subset.ensures.only (λ g _. rest_within ov b rest u c.args.flow.number c.remove.ensures c.group.ensures all g)),
     )

@@ -5,4 +5,4 @@ use Rattle.planner.proofs.Giving.{Giving}
 use Rattle.planner.proofs.slots.SlotTable.take_earliest.Given as goal
 
 abbrev pub invariant-loop-slot : goal.invariant-loop-slot
-invariant-loop-slot l = Giving (holds l.initial.self) (holds l.self) l.flow (free (holds l.initial.self) 64 (members l.beside)) l.demand l.slot l.left
+invariant-loop-slot l = Giving (holds l.initial.self) (holds l.self) l.request.flow.number (free (holds l.initial.self) 64 (members l.request.beside)) l.request.demand l.slot l.left

@@ -1,2 +1,1 @@
-pub mod NameCopies
 pub mod Bindings

@@ -6,7 +6,8 @@ ghost use Rattle.labels.specs.Faults.{AllHold, FirstFails};
 use crate::Label;
 use crate::faults::LabelFault;
 
-// How many entries a directory has: one for each flow.
+// How many entries a directory has: one for each flow. The memory is the caller's, and one of another length is refused at each
+// call, so that no caller needs to show its length first.
 const FLOWS: usize = 64;
 
 /// The lowest flow that the label names, or none.
@@ -16,24 +17,17 @@ pub fn find<L: Label>(entries: &[Option<L>], label: L) -> Result<Option<u8>, Lab
     if entries.len() != FLOWS {
         return Err(LabelFault::WrongMemory);
     }
-    for (number, entry) in entries.iter().enumerate() {
-        if let Some(held) = entry
-            && held.is_same(&label)
-        {
-            return Ok(Some(number as u8));
-        }
-    }
-    Ok(None)
+    let number = entries
+        .iter()
+        .position(|entry| entry.is_some_and(|held| held.is_same(&label)));
+    Ok(number.map(|number| number as u8))
 }
 
 /// The lowest flow that the label names; a label that names none is refused.
 pub fn find_bound<L: Label>(entries: &[Option<L>], label: L) -> Result<u8, LabelFault>
     ensures { FindsBound L.Label.same entries.now label result }
 {
-    match find(entries, label)? {
-        Some(number) => Ok(number),
-        None => Err(LabelFault::LabelUnknown),
-    }
+    find(entries, label)?.ok_or(LabelFault::LabelUnknown)
 }
 
 /// Binds a label that names no flow yet to a flow whose entry is empty.

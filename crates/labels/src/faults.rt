@@ -4,16 +4,16 @@ ghost use Rattle.labels.specs.Faults.{numbered};
 
 #[derive(Clone, Copy, PartialEq, Eq, Debug)]
 pub enum LabelFault {
-    /// 4: a flow number above 63.
-    NoFlow,
-    /// 7: memory that has not 64 entries.
-    WrongMemory,
-    /// 11: the flow's entry is bound.
-    EntryBound,
-    /// 20: the label is bound.
-    LabelBound,
-    /// 21: the label is unknown.
-    LabelUnknown,
+    /// A flow number above 63.
+    NoFlow = 4,
+    /// Memory that has not 64 entries.
+    WrongMemory = 7,
+    /// The flow's entry is bound.
+    EntryBound = 11,
+    /// The label is bound.
+    LabelBound = 20,
+    /// The label is unknown.
+    LabelUnknown = 21,
 }
 
 impl LabelFault {
@@ -21,12 +21,6 @@ impl LabelFault {
     pub fn number(self) -> u8
         ensures { result ≡ (numbered self).0 }
     {
-        match self {
-            LabelFault::NoFlow => 4,
-            LabelFault::WrongMemory => 7,
-            LabelFault::EntryBound => 11,
-            LabelFault::LabelBound => 20,
-            LabelFault::LabelUnknown => 21,
-        }
+        self as u8
     }
 }

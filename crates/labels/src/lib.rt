@@ -9,6 +9,7 @@ pub mod names;
 pub mod streams;
 
 /// A kind of labels, known by when two of them are the same.
+// not by `Eq`, since a kind may call labels the same that are not equal
 pub trait Label: Copy {
     ghost same: { Self → Self → Bool };
 

@@ -7,7 +7,7 @@ mod spelling;
 /// A name: 1 to 8 letters a to z. It is made by `Name::new` only, so every name is one.
 #[derive(Clone, Copy, Debug)]
 pub struct Name {
-    // those that are not used are 0, so that a spelling is kept in one way only
+    // an `ArrayVec` would not be `Copy`, as a label is; those that are not used are 0, so that a spelling is kept in one way only
     letters: [u8; 8],
     count: u8,
     ghost few: { count ≤ 8 },

@@ -5,10 +5,7 @@ use std::test::Fail;
 
 // The name that a test is about.
 pub(crate) fn named(bytes: &[u8]) -> Result<Name, Fail> {
-    match Name::new(bytes) {
-        Some(name) => Ok(name),
-        None => Err(Fail::new("no name")),
-    }
+    Name::new(bytes).ok_or_else(|| Fail::new("no name"))
 }
 
 #[test]
@@ -37,5 +34,12 @@ fn the_same_spelling(rt: HostRuntime) -> Result<(), Fail> {
     assert!(rt; !cam.is_same(&camera));
     assert!(rt; !camera.is_same(&cam));
     assert_ne!(rt; cam, camera);
+    Ok(())
+}
+
+#[test]
+fn shown_by_its_letters(rt: HostRuntime) -> Result<(), Fail> {
+    let camera = named(b"camera")?;
+    assert!(rt; format!(in rt.alloc(); "{camera}")?.as_str() == "camera");
     Ok(())
 }

@@ -8,6 +8,7 @@ pub use reading::read_description;
 /// The parents of a tree's terminals 1, 2 and so on, at most 127.
 #[derive(Clone, Copy)]
 pub struct Parents {
+    // an `ArrayVec` would not be `Copy`, as a description is
     room: [u16; 127],
     count: usize,
     ghost few: { count ≤ 127 },

@@ -1,5 +1,5 @@
 //! How a name is made of bytes, read again and compared.
-ghost use Rattle.std.specs.Prelude.{◌≡◌, Decides, MatchOption, refl};
+ghost use Rattle.std.specs.Prelude.{◌≡◌, ℕ, ◌<◌, Decides, MatchBool, MatchOption, Some, refl, slice_index};
 ghost use Rattle.std.proofs.Common.{sym, ◌∙◌, rules, arith};
 ghost use Rattle.std.specs.Str.{bytes_eq};
 ghost use Rattle.labels.specs.Names.{spelled};
@@ -11,24 +11,32 @@ ghost use Rattle.std.proofs.lemmas.Bool.Decides.{same_from_decides, Decides-like
 
 use crate::Label;
 use crate::names::Name;
+use std::{array, fmt};
+
+// Whether the bytes are 1 to 8 letters a to z.
+fn is_spelling(bytes: &[u8]) -> bool
+    ensures { MatchBool result (Spelling bytes.now) (Spelling bytes.now → ⊥) }
+{
+    (1..=8).contains(&bytes.len()) && bytes.iter().all(|byte| matches!(byte, b'a'..=b'z'))
+}
+
+// The bytes, and 0 after them.
+fn filled_up(bytes: &[u8]) -> [u8; 8]
+    ensures { (k : ℕ) → k < 8 → slice_index result k ≡ slice_index bytes.now k }
+{
+    array::from_fn(|at| bytes.get(at).copied().unwrap_or(0))
+}
 
 impl Name {
     /// The name that the bytes spell; none where they are not 1 to 8 letters a to z.
     pub fn new(bytes: &[u8]) -> Option<Name>
         ensures { MatchOption result (Spelling bytes.now → ⊥) (λ name. Spelling bytes.now × (spelled name ≡ bytes.now)) }
     {
-        if bytes.is_empty() || bytes.len() > 8 {
+        if !is_spelling(bytes) {
             return None;
         }
-        let mut letters = [0; 8];
-        for (at, byte) in bytes.iter().enumerate() {
-            if *byte < b'a' || *byte > b'z' {
-                return None;
-            }
-            letters[at] = *byte;
-        }
         Some(Name {
-            letters,
+            letters: filled_up(bytes),
             count: bytes.len() as u8,
         })
     }
@@ -42,6 +50,18 @@ impl Name {
     }
 }
 
+impl fmt::Display for Name {
+    ghost output = { λ name. Some (spelled name) };
+
+    fn fmt<W: fmt::Write>(&self, f: &mut fmt::Formatter<W>) -> fmt::Result {
+        match std::str::from_utf8(self.as_bytes()) {
+            Ok(letters) => f.pad(letters),
+            Err(_) => unreachable(),
+        }
+    }
+}
+
+// A derive would compare the letters and their count, and could not say that this is to compare the spellings.
 /// Names are equal exactly when their spellings are.
 impl PartialEq for Name {
     ghost eq = { λ name other. bytes_eq (spelled name) (spelled other) };

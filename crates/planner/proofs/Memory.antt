@@ -1,18 +1,11 @@
 -- The bookings in a plan's memory.
-use Rattle.std.proofs.Common.{◌≡◌, ℕ, ◌<◌, ◌≤◌, Bool, true, false, cond, not, ◌&&◌, eqb, List, length, get_or, set, is_some, Some, None, Option, sym, refl, ap, ◌∙◌, ⊎_elim, get_or-set_other, get_or-set_same}
-use Rattle.std.proofs.lemmas.List.{get_or_past}
-use Rattle.std.proofs.lemmas.Bool.{true≢false, false≢true, and_right, cases_eq, eq-eqb, ne_eqb, cond-true, cond-false}
+use Rattle.std.proofs.Common.{◌≡◌, ℕ, Bool, true, false, cond, not, ◌&&◌, eqb, is_some, Some, None, Option, sym, refl, ap, ◌∙◌}
+use Rattle.std.proofs.lemmas.Bool.{true≢false, false≢true, and_right, eq-eqb, ne_eqb, cond-true, cond-false}
 use Rattle.planner.specs.declared.bookings.Booking.{Booking}
+use Rattle.planner.specs.declared.bookings.Bookings.{Bookings}
 use Rattle.planner.specs.Bookings.{booking_at, booked_flow, kept_route, overlap_of, eqb_mutual}
 use Rattle.planner.specs.LinkSets.{crossing, share}
 use Rattle.planner.proofs.Sharing.{share_none}
-
--- past the memory nothing is booked
-pub none_past : (bs : List (Option Booking)) (n : ℕ) → length bs ≤ n → booking_at bs n ≡ None
-none_past bs n past = get_or_past bs n None past
-
-pub unbooked_past : (bs : List (Option Booking)) (n : ℕ) → length bs ≤ n → is_some (booking_at bs n) ≡ false
-unbooked_past bs n past = ap is_some (none_past bs n past)
 
 -- the route of what is not booked shares no link
 pub none_shares : (mine : ℕ → Bool) (o : Option Booking) → o ≡ None → share mine (kept_route o) ≡ false
@@ -24,15 +17,15 @@ unbooked None no_booking = refl
 unbooked (Some b) no_booking = absurd (no_booking b refl)
 
 -- the routes that are kept
-abbrev pub routes_in : List (Option Booking) → ℕ → ℕ → Bool
+abbrev pub routes_in : Bookings → ℕ → ℕ → Bool
 routes_in bs n = kept_route (booking_at bs n)
 
 -- what is not booked overlaps nothing
-pub none_overlaps : (bs : List (Option Booking)) (n g : ℕ) → booking_at bs n ≡ None → overlap_of (routes_in bs) n g ≡ false
+pub none_overlaps : (bs : Bookings) (n g : ℕ) → booking_at bs n ≡ None → overlap_of (routes_in bs) n g ≡ false
 none_overlaps bs n g e = and_right (not (eqb n g)) (share (routes_in bs n) (routes_in bs g)) (ap (λ b. share (kept_route b) (routes_in bs g)) e ∙ share_none (kept_route None) (routes_in bs g) (λ k a b. false≢true a))
 
 -- the group of a booked flow: those that meet its links, without it
-pub group_of : (bs : List (Option Booking)) (n : ℕ) (b : Booking) (met group : ℕ → Bool) → booking_at bs n ≡ Some b →
+pub group_of : (bs : Bookings) (n : ℕ) (b : Booking) (met group : ℕ → Bool) → booking_at bs n ≡ Some b →
     ((g : ℕ) → met g ≡ share (crossing b.links) (routes_in bs g)) → ((g : ℕ) → group g ≡ cond (eqb g n) false (met g)) →
     (g : ℕ) → group g ≡ overlap_of (routes_in bs) n g
 group_of bs n b met group is meets out g =
@@ -51,27 +44,20 @@ map_cond : {A B : Type 0} (f : A → B) (b : Bool) (x y : A) → f (cond b x y) 
 map_cond f true x y = refl
 map_cond f false x y = refl
 
--- the memory with another entry at n
-module _ (bs : List (Option Booking)) (n : ℕ) (o : Option Booking) (room : n < length bs) where
-  pub set_booking : (k : ℕ) → booking_at (set bs n o) k ≡ cond (eqb k n) o (booking_at bs k)
-  set_booking k =
-      ⊎_elim
-      (λ (e : k ≡ n). ap (λ i. get_or (set bs n o) i None) e ∙ get_or-set_same bs n o None room ∙ sym (cond-true (eqb k n) o (booking_at bs k) (eq-eqb k n e)))
-      (λ ne. get_or-set_other bs n k o None ne ∙ sym (cond-false (eqb k n) o (booking_at bs k) (ne_eqb k n ne)))
-      (cases_eq k n)
+-- the bookings with another entry at n
+module _ (bs new : Bookings) (n : ℕ) (o : Option Booking) (is : (k : ℕ) → booking_at new k ≡ cond (eqb k n) o (booking_at bs k)) where
+  pub set_flow : (k : ℕ) → booked_flow (booking_at new k) ≡ cond (eqb k n) (booked_flow o) (booked_flow (booking_at bs k))
+  set_flow k = ap booked_flow (is k) ∙ map_cond booked_flow (eqb k n) o (booking_at bs k)
 
-  pub set_flow : (k : ℕ) → booked_flow (booking_at (set bs n o) k) ≡ cond (eqb k n) (booked_flow o) (booked_flow (booking_at bs k))
-  set_flow k = ap booked_flow (set_booking k) ∙ map_cond booked_flow (eqb k n) o (booking_at bs k)
-
-  pub set_route : (k link : ℕ) → kept_route (booking_at (set bs n o) k) link ≡ cond (eqb k n) (kept_route o link) (kept_route (booking_at bs k) link)
-  set_route k link = ap (λ b. kept_route b link) (set_booking k) ∙ map_cond (λ b. kept_route b link) (eqb k n) o (booking_at bs k)
+  pub set_route : (k link : ℕ) → kept_route (booking_at new k) link ≡ cond (eqb k n) (kept_route o link) (kept_route (booking_at bs k) link)
+  set_route k link = ap (λ b. kept_route b link) (is k) ∙ map_cond (λ b. kept_route b link) (eqb k n) o (booking_at bs k)
 
   -- another entry is still booked
-  pub set_other_booked : (k : ℕ) → (k ≡ n → ⊥) → is_some (booking_at bs k) ≡ true → is_some (booking_at (set bs n o) k) ≡ true
-  set_other_booked k ne is = ap is_some (get_or-set_other bs n k o None ne) ∙ is
+  pub set_other_booked : (k : ℕ) → (k ≡ n → ⊥) → is_some (booking_at bs k) ≡ true → is_some (booking_at new k) ≡ true
+  set_other_booked k ne booked = ap is_some (is k ∙ cond-false (eqb k n) o (booking_at bs k) (ne_eqb k n ne)) ∙ booked
 
-  pub set_here_booked : (k : ℕ) → k ≡ n → is_some o ≡ true → is_some (booking_at (set bs n o) k) ≡ true
-  set_here_booked k e is = ap is_some (ap (λ i. get_or (set bs n o) i None) e ∙ get_or-set_same bs n o None room) ∙ is
+  pub set_here_booked : (k : ℕ) → k ≡ n → is_some o ≡ true → is_some (booking_at new k) ≡ true
+  set_here_booked k e booked = ap is_some (is k ∙ cond-true (eqb k n) o (booking_at bs k) (eq-eqb k n e)) ∙ booked
 
 pub no_booking : (o : Option Booking) → is_some (booked_flow o) ≡ false → o ≡ None
 no_booking None e = refl

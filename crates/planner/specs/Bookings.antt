@@ -1,11 +1,13 @@
 -- The flows that are booked, their routes, and the load that they are.
 -- A route r crosses the link k where r k ≡ true.
-use Rattle.std.specs.Prelude.{◌≡◌, ℕ, Bool, true, false, not, ◌&&◌, List, Some, None, Option, ◌==◌, slice_index_or}
-use Rattle.std.proofs.Common.{sym, ap, ◌∙◌, ⊎_elim}
+use Rattle.std.specs.Prelude.{◌≡◌, ℕ, ◌<◌, ◌≤◌, Bool, true, false, not, ◌&&◌, is_some, Some, None, Option, ◌==◌, slice_index_or}
+use Rattle.std.proofs.Common.{sym, ap, ◌∙◌, ⊎_elim, subst}
 use Rattle.std.proofs.Math.Path.{fun_ext}
-use Rattle.std.proofs.lemmas.Bool.{eq-eqb, ne_eqb, cases_eq}
+use Rattle.std.proofs.lemmas.Bool.{eq-eqb, ne_eqb, cases_eq, cases_lt, both_ways}
+use Rattle.std.proofs.lemmas.List.{get_or_past}
 use Rattle.fabric.specs.Meaning.{Meaning}
 use Rattle.planner.specs.declared.bookings.Booking.{Booking}
+use Rattle.planner.specs.declared.bookings.Bookings.{Bookings}
 use Rattle.planner.specs.declared.flows.Flow.{Flow}
 use Rattle.planner.specs.LinkSets.{crossing, share}
 use Rattle.planner.specs.Slots.{Load, some_below, free}
@@ -63,5 +65,12 @@ abbrev pub kept_route : Option Booking → ℕ → Bool
 kept_route None k = false
 kept_route (Some b) k = crossing b.links k
 
-abbrev pub booking_at : List (Option Booking) → ℕ → Option Booking
-booking_at bookings n = slice_index_or bookings n None
+abbrev pub booking_at : Bookings → ℕ → Option Booking
+booking_at bookings n = slice_index_or bookings.entries n None
+
+-- nothing is booked under 64 or above
+pub none_past : (bs : Bookings) (n : ℕ) → 64 ≤ n → booking_at bs n ≡ None
+none_past bs n past = get_or_past bs.entries n None (subst (λ m. m ≤ n) (sym bs.sized) past)
+
+pub booked_numbered : (bs : Bookings) (n : ℕ) → is_some (booking_at bs n) ≡ true → n < 64
+booked_numbered bs n is = ⊎_elim (λ low. low) (λ past. absurd (both_ways (is_some (booking_at bs n)) (ap is_some (none_past bs n past)) is)) (cases_lt n 64)

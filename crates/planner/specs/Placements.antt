@@ -1,13 +1,11 @@
 -- What a re-plan leaves: a placing along the chosen order, or a refusal with its number and its group.
-use Rattle.std.specs.Prelude.{◌≡◌, ℕ, Bool, ◌⊎◌, List, [], ◌∷◌, Ok, Err, Result}
+use Rattle.std.specs.Prelude.{◌≡◌, ℕ, Bool, ◌⊎◌, List, [], ◌∷◌}
 use Rattle.planner.specs.declared.plan_faults.PlanFault.{PlanFault}
-use Rattle.planner.specs.declared.slots.SlotTable.{SlotTable}
 use Rattle.planner.specs.FlowSets.{bit}
 use Rattle.planner.specs.Orders.{Order, Chosen, Remains}
 use Rattle.planner.specs.PlanFaults.{numbered}
 use Rattle.planner.specs.Placings.{PlacedAlong, ShortAlong, FitsAlong, Crowded}
 use Rattle.planner.specs.Slots.{Load}
-use Rattle.planner.specs.Tables.{holds}
 
 -- the flows of p have a chosen order, and are placed in t along it
 pub record PlacedInOrder (load : Load) (p : ℕ → Bool) (t : ℕ → ℕ → Bool) : Type 0 where
@@ -31,8 +29,3 @@ Unplanned load p fault =
     (group : ℕ) ×
     (((numbered fault ≡ (16, group ∷ [])) × Remains load.overlap p (bit group))
     ⊎ ((numbered fault ≡ (17, group ∷ [])) × Unplaceable load p (bit group)))
-
--- the flows of p are placed along their chosen order, or are refused with 16 or 17
-abbrev pub PlacedOrRefused : Load → (ℕ → Bool) → Result SlotTable PlanFault → Type 0
-PlacedOrRefused load p (Ok table) = PlacedInOrder load p (holds table)
-PlacedOrRefused load p (Err fault) = Unplanned load p fault

@@ -1,14 +1,19 @@
 -- What the questions about a plan mean.
-use Rattle.std.specs.Prelude.{◌≡◌, ℕ, ◌+◌, ◌<◌, ◌≤◌, Bool, true, false, ◌⊎◌, Some}
+use Rattle.std.specs.Prelude.{◌≡◌, ℕ, ◌+◌, ◌<◌, ◌≤◌, Bool, true, false, ◌⊎◌, Some, Option}
+use Rattle.fabric.specs.Meaning.{Meaning}
 use Rattle.planner.specs.declared.flows.Flow.{Flow}
 use Rattle.planner.specs.Shown.{Shown}
 
--- the flow n sends on the link in the slot: it is booked, its route crosses the link, and it holds the slot
-pub record Sends (s : Shown) (n link slot : ℕ) : Type 0 where
+-- what is booked under a number sends on a link: it is a flow, its route on the fabric crosses the link, and the slot is held
+pub record SendsOn (m : Meaning) (of : Option Flow) (held : Bool) (link : ℕ) : Type 0 where
   pub flow : Flow
-  pub booked : s.booked n ≡ Some flow
-  pub crosses : s.meaning.crossed flow.ends link ≡ true
-  pub holds : s.holds n slot ≡ true
+  pub booked : of ≡ Some flow
+  pub crosses : m.crossed flow.ends link ≡ true
+  pub holds : held ≡ true
+
+-- the flow n sends on the link in the slot, whether the plan is running or not
+abbrev pub Sends : Shown → ℕ → ℕ → ℕ → Type 0
+Sends s n link slot = SendsOn s.meaning (s.booked n) (s.holds n slot) link
 
 -- of the slots r, u is the next after s
 pub record NextSlot (r : ℕ → Bool) (s u : ℕ) : Type 0 where

@@ -1,83 +1,54 @@
 //! The questions about a plan whose state is known only when the program runs.
-ghost use Rattle.std.specs.Prelude.{◌≡◌, ℕ, ◌<◌, MatchOption};
-ghost use Rattle.planner.specs.Bookings.{demand_of};
+ghost use Rattle.std.specs.Prelude.{◌≡◌};
+ghost use Rattle.planner.specs.Bookings.{booked_numbered};
 ghost use Rattle.planner.specs.Outcomes.{any_shows};
-ghost use Rattle.planner.specs.Questions.{Sends, Wait};
+ghost use Rattle.planner.specs.declared.any_plans.AnyPlan.TheVariants.{Resting as AtRest, Running as InUse};
 
 use crate::any_plans::AnyPlan;
 use crate::flows::Flow;
+use crate::questions::Questions;
 use fabric::Fabric;
+use fabric::pairs::Pair;
 
 impl<F: Fabric> AnyPlan<F> {
     /// Whether the plan is running.
     pub fn is_running(&self) -> bool
         ensures { result ≡ (any_shows F.Fabric.meaning self.now).running }
     {
-        match self {
-            AnyPlan::Resting(_) => false,
-            AnyPlan::Running(_) => true,
-        }
+        matches!(self, AnyPlan::Running(_))
     }
+}
 
-    /// How many slots the period has.
-    pub fn period(&self) -> u8
-        ensures { result ≡ (any_shows F.Fabric.meaning self.now).period }
-    {
+impl<F: Fabric> Questions for AnyPlan<F> {
+    ghost shown = { λ plan. any_shows F.Fabric.meaning plan };
+
+    ghost numbered = { elim [ AtRest plan ↦ λ n slot held. booked_numbered plan.bookings n (plan.owned n slot held) | InUse plan ↦ λ n slot held. booked_numbered plan.bookings n (plan.owned n slot held) ] };
+
+    fn period(&self) -> u8 {
         match self {
             AnyPlan::Resting(plan) => plan.period(),
             AnyPlan::Running(plan) => plan.period(),
         }
     }
 
-    /// The flow that is booked under a number.
-    pub fn flow(&self, number: u16) -> Option<Flow>
-        ensures { result ≡ (any_shows F.Fabric.meaning self.now).booked number }
-    {
+    fn flow(&self, number: u16) -> Option<Flow> {
         match self {
             AnyPlan::Resting(plan) => plan.flow(number),
             AnyPlan::Running(plan) => plan.flow(number),
         }
     }
 
-    /// Whether the flow of this number holds the slot.
-    pub fn holds(&self, number: u16, slot: u16) -> bool
-        ensures { result ≡ (any_shows F.Fabric.meaning self.now).holds number slot }
-    {
+    fn holds(&self, number: u16, slot: u16) -> bool {
         match self {
             AnyPlan::Resting(plan) => plan.holds(number, slot),
             AnyPlan::Running(plan) => plan.holds(number, slot),
         }
     }
 
-    /// The demand of the flow of this number.
-    pub fn demand(&self, number: u16) -> u16
-        ensures { result ≡ demand_of ((any_shows F.Fabric.meaning self.now).booked number) }
-    {
+    fn crosses(&self, pair: Pair, link: u16) -> bool {
         match self {
-            AnyPlan::Resting(plan) => plan.demand(number),
-            AnyPlan::Running(plan) => plan.demand(number),
-        }
-    }
-
-    /// The wait of the flow of this number.
-    pub fn wait(&self, number: u16) -> u8
-        ensures { Wait ((any_shows F.Fabric.meaning self.now).holds number) (any_shows F.Fabric.meaning self.now).period result }
-    {
-        match self {
-            AnyPlan::Resting(plan) => plan.wait(number),
-            AnyPlan::Running(plan) => plan.wait(number),
-        }
-    }
-
-    /// The flow that sends on the link in the slot, or nobody.
-    pub fn sender(&self, link: u16, slot: u16) -> Option<u8>
-        ensures { MatchOption result
-            ((n : ℕ) → Sends (any_shows F.Fabric.meaning self.now) n link slot → ⊥)
-            (λ n. Sends (any_shows F.Fabric.meaning self.now) n link slot × ((k : ℕ) → k < n → Sends (any_shows F.Fabric.meaning self.now) k link slot → ⊥)) }
-    {
-        match self {
-            AnyPlan::Resting(plan) => plan.sender(link, slot),
-            AnyPlan::Running(plan) => plan.sender(link, slot),
+            AnyPlan::Resting(plan) => plan.crosses(pair, link),
+            AnyPlan::Running(plan) => plan.crosses(pair, link),
         }
     }
 }

@@ -1,11 +1,10 @@
 //! The calls that book flows and end bookings.
-ghost use Rattle.std.specs.Prelude.{◌≡◌, Bool, true, false, is_some, MatchResult};
+ghost use Rattle.std.specs.Prelude.{◌≡◌, ℕ, Bool, true, false, MatchResult};
+ghost use Rattle.planner.specs.LinkSets.{crossing};
 ghost use Rattle.planner.specs.Shown.{shows};
-ghost use Rattle.planner.specs.Bookings.{booking_at};
 ghost use Rattle.planner.specs.Steps.{Step, Passes, RefusedBy, enrol_checks};
 ghost use Rattle.planner.specs.declared.calls.Call.TheVariants.{Enrol, Admit, Withdraw};
 
-use crate::booked::met_by;
 use crate::bookings::Booking;
 use crate::flow_numbers::FlowNumber;
 use crate::flows::Flow;
@@ -22,9 +21,8 @@ impl<F: Fabric> Plan<F, Resting> {
     pub fn enrol(&mut self, number: u16, flow: Flow) -> Result<(), PlanFault>
         ensures { Step (shows F.Fabric.meaning false self.old) (Enrol number flow) result (shows F.Fabric.meaning false self.new) }
     {
-        self.may_book(number, flow)?;
-        let route = LinkSet::of_route(&self.fabric, flow.ends);
-        self.bookings[number as usize] = Some(Booking { flow, links: route });
+        let (free, booking) = self.may_book(number, flow)?;
+        self.bookings.insert(free, booking);
         Ok(())
     }
 }
@@ -35,46 +33,32 @@ impl<F: Fabric> Plan<F, Running> {
     pub fn admit(&mut self, number: u16, flow: Flow) -> Result<(), PlanFault>
         ensures { Step (shows F.Fabric.meaning true self.old) (Admit number flow) result (shows F.Fabric.meaning true self.new) }
     {
-        self.may_book(number, flow)?;
-        let links = LinkSet::of_route(&self.fabric, flow.ends);
-        let beside = met_by(&self.bookings, &links);
-        let request = SlotRequest {
-            flow: FlowNumber {
-                number: number as u8,
-            },
+        let (number, booking) = self.may_book(number, flow)?;
+        let beside = self.bookings.met_by(&booking.links);
+        self.table.give(SlotRequest {
+            flow: number,
             beside,
             demand: flow.demand,
             period: self.period.slots,
-        };
-        self.table
-            .give(request)
-            .map_err(|_| PlanFault::TooFewSlots)?;
-        self.bookings[number as usize] = Some(Booking { flow, links });
+        })?;
+        self.bookings.insert(number, booking);
         Ok(())
     }
 }
 
 impl<F: Fabric, S> Plan<F, S> {
-    // Whether a flow is booked under the number.
-    fn is_booked(&self, number: u16) -> bool
-        ensures { result ≡ is_some (booking_at self.now.bookings number) }
-    {
-        number < 64 && self.bookings[number as usize].is_some()
-    }
-
-    // The checks that every booking passes.
-    fn may_book(&self, number: u16, flow: Flow) -> Result<(), PlanFault>
+    // The checks that every booking passes: the number and what is to be booked under it.
+    fn may_book(&self, number: u16, flow: Flow) -> Result<(FlowNumber, Booking), PlanFault>
         ensures { MatchResult result
-            (λ _. Passes (enrol_checks (shows F.Fabric.meaning false self.now) number flow))
+            (λ of. Passes (enrol_checks (shows F.Fabric.meaning false self.now) number flow) × (of.0.number ≡ number) × (of.1.flow ≡ flow)
+            × ((link : ℕ) → crossing of.1.links link ≡ (F.Fabric.meaning self.now.fabric).crossed flow.ends link))
             (λ fault. RefusedBy (enrol_checks (shows F.Fabric.meaning false self.now) number flow) fault) }
     {
-        if number > 63 {
-            return Err(PlanFault::BadNumber);
-        }
+        let number = FlowNumber::new(number).ok_or(PlanFault::BadNumber)?;
         if flow.demand == 0 {
             return Err(PlanFault::NoDemand);
         }
-        if self.is_booked(number) {
+        if self.bookings.get(number).is_some() {
             return Err(PlanFault::NumberTaken);
         }
         if !self.fabric.routed(flow.ends) {
@@ -83,7 +67,8 @@ impl<F: Fabric, S> Plan<F, S> {
         if flow.demand > u16::from(self.period.slots) {
             return Err(PlanFault::DemandAbovePeriod);
         }
-        Ok(())
+        let links = LinkSet::of_route(&self.fabric, flow.ends);
+        Ok((number, Booking { flow, links }))
     }
 
     /// Ends the booking under a number; the number and its slots are free again. Checked in this order: 4 the number,
@@ -91,17 +76,12 @@ impl<F: Fabric, S> Plan<F, S> {
     pub fn withdraw(&mut self, number: u16) -> Result<(), PlanFault>
         ensures { (running : Bool) → Step (shows F.Fabric.meaning running self.old) (Withdraw number) result (shows F.Fabric.meaning running self.new) }
     {
-        if number > 63 {
-            return Err(PlanFault::BadNumber);
-        }
-        if !self.is_booked(number) {
+        let number = FlowNumber::new(number).ok_or(PlanFault::BadNumber)?;
+        if self.bookings.get(number).is_none() {
             return Err(PlanFault::NotBooked);
         }
-        let leaving = FlowNumber {
-            number: number as u8,
-        };
-        self.table.clear(leaving);
-        self.bookings[number as usize] = None;
+        self.table.clear(number);
+        self.bookings.remove(number);
         Ok(())
     }
 }

@@ -1,4 +1,6 @@
-//! Bookings, as they are kept. The struct stands alone: definitions that contracts cite name it.
+//! Bookings, as they are kept. The structs stand alone: definitions that contracts cite name them.
+ghost use Rattle.std.specs.Prelude.{◌≡◌, length};
+
 use crate::flows::Flow;
 use crate::link_sets::LinkSet;
 
@@ -7,4 +9,11 @@ use crate::link_sets::LinkSet;
 pub struct Booking {
     pub(crate) flow: Flow,
     pub(crate) links: LinkSet,
+}
+
+/// What is booked under each number.
+#[derive(Clone, Copy)]
+pub struct Bookings {
+    pub(crate) entries: [Option<Booking>; 64],
+    ghost sized: { length entries ≡ 64 },
 }

@@ -2,7 +2,7 @@
 use crate::flows::Flow;
 use fabric::modules::Module;
 
-#[derive(Clone, Copy)]
+#[derive(Clone, Copy, PartialEq, Eq, Debug)]
 pub enum Call {
     /// Books a flow under a number, waiting. For a resting plan.
     Enrol(u16, Flow),

@@ -5,7 +5,7 @@ ghost use Rattle.planner.specs.FlowSets.{bit, members};
 use crate::flow_numbers::FlowNumber;
 
 /// A set of flows, also called a group: a 64-bit number whose bit n stands for flow n.
-#[derive(Clone, Copy)]
+#[derive(Clone, Copy, PartialEq, Eq, Debug)]
 pub struct FlowSet(u64);
 
 impl FlowSet {

@@ -23,7 +23,7 @@ pub mod placings;
 pub mod plan_faults;
 pub mod planning;
 pub mod plans;
-mod questions;
+pub mod questions;
 mod replans;
 mod slot_requests;
 pub mod slots;

@@ -6,6 +6,7 @@ ghost use Rattle.planner.specs.Shown.{Opened, shows};
 ghost use Rattle.planner.specs.Steps.{Step};
 ghost use Rattle.planner.specs.declared.calls.Call.TheVariants.{Start, Rest, Fit};
 
+use crate::bookings::Bookings;
 use crate::periods::Period;
 use crate::plan_faults::PlanFault;
 use crate::plans::Plan;
@@ -22,10 +23,10 @@ impl Period {
     pub fn new(slots: u16) -> Result<Period, PlanFault>
         ensures { MatchResult result (λ period. period.slots ≡ slots) (λ fault. ((1 ≤ slots) × (slots ≤ 255) → ⊥) × (numbered fault ≡ (1, []))) }
     {
-        if slots < 1 || slots > 255 {
-            return Err(PlanFault::BadPeriod);
+        match u8::try_from(slots) {
+            Ok(slots @ 1..) => Ok(Period { slots }),
+            _ => Err(PlanFault::BadPeriod),
         }
-        Ok(Period { slots: slots as u8 })
     }
 }
 
@@ -37,7 +38,7 @@ impl<F: Fabric> Plan<F, Resting> {
         Plan {
             fabric,
             period: length,
-            bookings: [None; 64],
+            bookings: Bookings::none(),
             table: SlotTable::empty(),
             state: PhantomData,
         }

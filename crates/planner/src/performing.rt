@@ -30,41 +30,28 @@ fn perform_resting<F: Fabric>(mut plan: Plan<F, Resting>, call: Call) -> Outcome
     ensures performed { Performed F.Fabric.meaning (AtRest plan) call result }
     ensures fitted { FitsAlone call result }
 {
-    match call {
-        Call::Enrol(number, flow) => {
-            let answer = plan.enrol(number, flow);
-            Outcome::Answered(AnyPlan::Resting(plan), answer)
-        }
-        Call::Withdraw(number) => {
-            let answer = plan.withdraw(number);
-            Outcome::Answered(AnyPlan::Resting(plan), answer)
-        }
-        Call::Replan => {
-            let answer = plan.replan();
-            Outcome::Answered(AnyPlan::Resting(plan), answer)
-        }
-        Call::Start => Outcome::Answered(AnyPlan::Running(plan.start()), Ok(())),
-        Call::Fit(module) => Outcome::Fitted(plan.fit(module)),
-        Call::Admit(_, _) | Call::Rest => Outcome::NotAllowed(AnyPlan::Resting(plan)),
-    }
+    let answer = match call {
+        Call::Enrol(number, flow) => plan.enrol(number, flow),
+        Call::Withdraw(number) => plan.withdraw(number),
+        Call::Replan => plan.replan(),
+        Call::Start => return Outcome::Answered(AnyPlan::Running(plan.start()), Ok(())),
+        Call::Fit(module) => return Outcome::Fitted(plan.fit(module)),
+        Call::Admit(_, _) | Call::Rest => return Outcome::NotAllowed(AnyPlan::Resting(plan)),
+    };
+    Outcome::Answered(AnyPlan::Resting(plan), answer)
 }
 
 fn perform_running<F: Fabric>(mut plan: Plan<F, Running>, call: Call) -> Outcome<F>
     ensures performed { Performed F.Fabric.meaning (InUse plan) call result }
     ensures fitted { FitsAlone call result }
 {
-    match call {
-        Call::Admit(number, flow) => {
-            let answer = plan.admit(number, flow);
-            Outcome::Answered(AnyPlan::Running(plan), answer)
-        }
-        Call::Withdraw(number) => {
-            let answer = plan.withdraw(number);
-            Outcome::Answered(AnyPlan::Running(plan), answer)
-        }
-        Call::Rest => Outcome::Answered(AnyPlan::Resting(plan.rest()), Ok(())),
+    let answer = match call {
+        Call::Admit(number, flow) => plan.admit(number, flow),
+        Call::Withdraw(number) => plan.withdraw(number),
+        Call::Rest => return Outcome::Answered(AnyPlan::Resting(plan.rest()), Ok(())),
         Call::Enrol(_, _) | Call::Replan | Call::Start | Call::Fit(_) => {
-            Outcome::NotAllowed(AnyPlan::Running(plan))
+            return Outcome::NotAllowed(AnyPlan::Running(plan));
         }
-    }
+    };
+    Outcome::Answered(AnyPlan::Running(plan), answer)
 }

@@ -1,10 +1,13 @@
 //! Why a plan refuses a call.
 ghost use Rattle.std.specs.Prelude.{◌≡◌};
-ghost use Rattle.planner.specs.PlanFaults.{numbered};
+ghost use Rattle.planner.specs.PlanFaults.{numbered, fault_of};
+ghost use Rattle.planner.specs.declared.plan_faults.PlanFault.TheVariants.{TooFewSlots};
 
 use crate::flow_sets::FlowSet;
+use crate::slot_requests::TooFew;
+use crate::unplaced::Unplaced;
 
-#[derive(Clone, Copy)]
+#[derive(Clone, Copy, PartialEq, Eq, Debug)]
 pub enum PlanFault {
     /// 1: the period is not 1 to 255 slots.
     BadPeriod,
@@ -46,5 +49,26 @@ impl PlanFault {
             PlanFault::NoOrder(_) => 16,
             PlanFault::NoPlacing(_) => 17,
         }
+    }
+}
+
+/// The refusal of a plan whose flows are not placed.
+impl From<Unplaced> for PlanFault {
+    ghost from_gives = { λ unplaced fault. fault ≡ fault_of unplaced };
+
+    fn from(unplaced: Unplaced) -> PlanFault {
+        match unplaced {
+            Unplaced::NoOrder(group) => PlanFault::NoOrder(group),
+            Unplaced::NoPlacing(group) => PlanFault::NoPlacing(group),
+        }
+    }
+}
+
+/// The refusal of a flow for which too few slots are valid.
+impl From<TooFew> for PlanFault {
+    ghost from_gives = { λ _ fault. fault ≡ TooFewSlots };
+
+    fn from(_few: TooFew) -> PlanFault {
+        PlanFault::TooFewSlots
     }
 }

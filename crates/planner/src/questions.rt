@@ -1,63 +1,50 @@
-//! The questions that a plan answers in both states. Numbers out of range and flows that are not booked are answered nobody, no or 0.
-ghost use Rattle.std.specs.Prelude.{◌≡◌, ℕ, ◌-◌, ◌<◌, max, Bool, Decides, MatchOption};
-ghost use Rattle.planner.specs.Bookings.{demand_of};
+//! The questions that a plan answers, whatever its state. Numbers out of range and flows that are not booked are answered nobody, no or 0.
+ghost use Rattle.std.specs.Prelude.{◌≡◌, ℕ, ◌-◌, ◌<◌, max, true, false, Decides, MatchOption};
+ghost use Rattle.planner.specs.Bookings.{booked_numbered, demand_of};
 ghost use Rattle.planner.specs.Questions.{Sends, Wait};
-ghost use Rattle.planner.specs.Shown.{shows};
+ghost use Rattle.planner.specs.Shown.{Shown, shows};
 
+use crate::flow_numbers::FlowNumber;
 use crate::flows::Flow;
 use crate::plans::Plan;
 use fabric::Fabric;
+use fabric::pairs::Pair;
 
-impl<F: Fabric, S> Plan<F, S> {
+/// What a plan can be asked, known by four answers: the others follow from them. They are those of what the plan shows.
+pub trait Questions {
+    ghost shown: { Self → Shown };
+
     /// How many slots the period has.
-    pub fn period(&self) -> u8
-        ensures { (running : Bool) → result ≡ (shows F.Fabric.meaning running self.now).period }
-    {
-        self.period.slots
-    }
+    fn period(&self) -> u8
+        ensures { result ≡ (shown self.now).period };
 
     /// The flow that is booked under a number.
-    pub fn flow(&self, number: u16) -> Option<Flow>
-        ensures { (running : Bool) → result ≡ (shows F.Fabric.meaning running self.now).booked number }
-    {
-        if number >= 64 {
-            return None;
-        }
-        match self.bookings[number as usize] {
-            Some(booking) => Some(booking.flow),
-            None => None,
-        }
-    }
+    fn flow(&self, number: u16) -> Option<Flow>
+        ensures { result ≡ (shown self.now).booked number };
 
     /// Whether the flow of this number holds the slot.
-    pub fn holds(&self, number: u16, slot: u16) -> bool
-        ensures { (running : Bool) → result ≡ (shows F.Fabric.meaning running self.now).holds number slot }
-    {
-        let period = u16::from(self.period.slots);
-        if number >= 64 || slot >= period {
-            return false;
-        }
-        self.table.holds_slot(number as u8, slot as u8)
-    }
+    fn holds(&self, number: u16, slot: u16) -> bool
+        ensures { result ≡ (shown self.now).holds number slot };
+
+    /// Whether the pair's route on the plan's fabric crosses the link; no without a route.
+    fn crosses(&self, pair: Pair, link: u16) -> bool
+        ensures { result ≡ (shown self.now).meaning.crossed pair link };
 
     /// The demand of the flow of this number.
-    pub fn demand(&self, number: u16) -> u16
-        ensures { (running : Bool) → result ≡ demand_of ((shows F.Fabric.meaning running self.now).booked number) }
+    fn demand(&self, number: u16) -> u16
+        ensures { result ≡ demand_of ((shown self.now).booked number) }
     {
-        match self.flow(number) {
-            Some(flow) => flow.demand,
-            None => 0,
-        }
+        self.flow(number).map_or(0, |flow| flow.demand)
     }
 
     /// The wait of the flow of this number: the greatest distance from one of its slots to the next within the period,
     /// 0 for one slot or none.
-    pub fn wait(&self, number: u16) -> u8
-        ensures { (running : Bool) → Wait ((shows F.Fabric.meaning running self.now).holds number) (shows F.Fabric.meaning running self.now).period result }
+    fn wait(&self, number: u16) -> u8
+        ensures { Wait ((shown self.now).holds number) (shown self.now).period result }
     {
         let mut wait = 0;
         let mut last = None;
-        for slot in 0..self.period.slots {
+        for slot in 0..self.period() {
             if self.holds(number, u16::from(slot)) {
                 wait = longer(wait, last, slot);
                 last = Some(slot);
@@ -66,32 +53,54 @@ impl<F: Fabric, S> Plan<F, S> {
         wait
     }
 
-    /// The flow that sends on the link in the slot, or nobody.
-    pub fn sender(&self, link: u16, slot: u16) -> Option<u8>
-        ensures { (running : Bool) → MatchOption result
-            ((n : ℕ) → Sends (shows F.Fabric.meaning running self.now) n link slot → ⊥)
-            (λ n. Sends (shows F.Fabric.meaning running self.now) n link slot × ((k : ℕ) → k < n → Sends (shows F.Fabric.meaning running self.now) k link slot → ⊥)) }
+    /// Whether the flow of this number sends on the link in the slot. The fabric is asked, so that the answer is that of
+    /// the flow's route on it.
+    fn sends(&self, number: u16, link: u16, slot: u16) -> bool
+        ensures { Decides result (Sends (shown self.now) number link slot) }
     {
-        for number in 0..64u8 {
-            if self.sends(u16::from(number), link, slot) {
-                return Some(number);
-            }
-        }
-        None
+        self.holds(number, slot)
+            && self
+                .flow(number)
+                .is_some_and(|flow| self.crosses(flow.ends, link))
     }
 
-    // Whether the flow of this number sends on the link in the slot. The fabric is asked, so that the answer is that of
-    // the flow's route on it.
-    fn sends(&self, number: u16, link: u16, slot: u16) -> bool
-        ensures { (running : Bool) → Decides result (Sends (shows F.Fabric.meaning running self.now) number link slot) }
+    /// The flow that sends on the link in the slot, or nobody.
+    fn sender(&self, link: u16, slot: u16) -> Option<u8>
+        ensures { MatchOption result
+            ((n : ℕ) → Sends (shown self.now) n link slot → ⊥)
+            (λ n. Sends (shown self.now) n link slot × ((k : ℕ) → k < n → Sends (shown self.now) k link slot → ⊥)) }
     {
-        if !self.holds(number, slot) {
+        (0..64).find(|number| self.sends(u16::from(*number), link, slot))
+    }
+
+    // only flows of numbers below 64 hold slots
+    ghost numbered: { (plan : Self) (n slot : ℕ) → (shown plan).holds n slot ≡ true → n < 64 };
+}
+
+impl<F: Fabric, S> Questions for Plan<F, S> {
+    // no answer depends on the state, so each is that of the plan running or not
+    ghost shown = { λ plan. shows F.Fabric.meaning false plan };
+
+    ghost numbered = { λ plan n slot held. booked_numbered plan.bookings n (plan.owned n slot held) };
+
+    fn period(&self) -> u8 {
+        self.period.slots
+    }
+
+    fn flow(&self, number: u16) -> Option<Flow> {
+        let booking = self.bookings.get(FlowNumber::new(number)?)?;
+        Some(booking.flow)
+    }
+
+    fn holds(&self, number: u16, slot: u16) -> bool {
+        let (Ok(number), Ok(slot)) = (u8::try_from(number), u8::try_from(slot)) else {
             return false;
-        }
-        match self.flow(number) {
-            Some(flow) => self.fabric.crosses(flow.ends, link),
-            None => false,
-        }
+        };
+        self.table.holds_slot(number, slot)
+    }
+
+    fn crosses(&self, pair: Pair, link: u16) -> bool {
+        self.fabric.crosses(pair, link)
     }
 }
 
@@ -99,8 +108,5 @@ impl<F: Fabric, S> Plan<F, S> {
 fn longer(wait: u8, last: Option<u8>, slot: u8) -> u8
     ensures { MatchOption last (result ≡ wait) (λ before. result ≡ max wait (slot - before)) }
 {
-    match last {
-        Some(before) => wait.max(slot.saturating_sub(before)),
-        None => wait,
-    }
+    last.map_or(wait, |before| wait.max(slot.saturating_sub(before)))
 }

@@ -1,7 +1,7 @@
 //! Why flows are not placed.
 use crate::flow_sets::FlowSet;
 
-#[derive(Clone, Copy)]
+#[derive(Clone, Copy, PartialEq, Eq, Debug)]
 pub enum Unplaced {
     /// They have no order: the flows that remain when none may come last.
     NoOrder(FlowSet),

@@ -2,6 +2,7 @@
 use crate::asking::{flow, held, on_line, told};
 use planner::flows::Flow;
 use planner::periods::Period;
+use planner::questions::Questions;
 use std::test::Fail;
 
 // With flow 0 booked on a line of 2 with period 8: a number, a flow, and the refusal of the earlier of its two faults. The
@@ -21,17 +22,17 @@ fn two_faults() -> [(u16, Flow, u8); 6] {
 #[test]
 fn the_earlier_fault_is_answered(rt: HostRuntime) -> Result<(), Fail> {
     let mut plan = on_line(2, 8)?;
-    told(plan.enrol(0, flow(0, 1, 4)))?;
+    plan.enrol(0, flow(0, 1, 4))?;
     for (number, flow, refusal) in two_faults() {
         assert_eq!(rt; told(plan.enrol(number, flow)), Err((refusal, 0)));
     }
-    told(plan.replan())?;
+    plan.replan()?;
     let mut plan = plan.start();
     for (number, flow, refusal) in two_faults() {
         assert_eq!(rt; told(plan.admit(number, flow)), Err((refusal, 0)));
     }
     assert_eq!(rt; told(plan.admit(63, flow(0, 1, 5))), Err((14, 0)));
-    told(plan.admit(63, flow(0, 1, 4)))?;
+    plan.admit(63, flow(0, 1, 4))?;
     assert_eq!(rt; (held(&plan, 0), held(&plan, 63)), (0b1111, 0b1111_0000));
     Ok(())
 }
@@ -39,16 +40,16 @@ fn the_earlier_fault_is_answered(rt: HostRuntime) -> Result<(), Fail> {
 #[test]
 fn withdrawals(rt: HostRuntime) -> Result<(), Fail> {
     let mut plan = on_line(2, 8)?;
-    told(plan.enrol(5, flow(0, 1, 4)))?;
+    plan.enrol(5, flow(0, 1, 4))?;
     for (number, refusal) in [(64, 4), (256 + 5, 4), (63, 15), (0, 15)] {
         assert_eq!(rt; told(plan.withdraw(number)), Err((refusal, 0)));
     }
-    told(plan.withdraw(5))?;
+    plan.withdraw(5)?;
     let mut plan = plan.start();
     for (number, refusal) in [(64, 4), (256 + 5, 4), (63, 15), (5, 15)] {
         assert_eq!(rt; told(plan.withdraw(number)), Err((refusal, 0)));
     }
-    told(plan.admit(5, flow(1, 0, 8)))?;
+    plan.admit(5, flow(1, 0, 8))?;
     assert_eq!(rt; held(&plan, 5), 0b1111_1111);
     Ok(())
 }
@@ -56,13 +57,11 @@ fn withdrawals(rt: HostRuntime) -> Result<(), Fail> {
 #[test]
 fn periods(rt: HostRuntime) -> Result<(), Fail> {
     for slots in [0, 256, 65535] {
-        match Period::new(slots) {
-            Ok(_) => return Err(Fail::new("a period")),
-            Err(fault) => assert_eq!(rt; fault.number(), 1),
-        }
+        let refusal = Period::new(slots).err().map(|fault| fault.number());
+        assert_eq!(rt; refusal, Some(1));
     }
     for slots in [1, 255] {
-        assert_eq!(rt; on_line(2, slots)?.period(), slots as u8);
+        assert_eq!(rt; u16::from(on_line(2, slots)?.period()), slots);
     }
     Ok(())
 }

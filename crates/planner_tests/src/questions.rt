@@ -1,7 +1,8 @@
 //! The questions, on a plan of which one flow has its slots apart.
-use crate::asking::{flow, held, on_line, told};
+use crate::asking::{flow, held, on_line};
 use fabric::lines::Line;
 use planner::plans::Plan;
+use planner::questions::Questions;
 use planner::states::Running;
 use std::test::Fail;
 
@@ -9,11 +10,11 @@ use std::test::Fail;
 // over link 1 in 1.
 fn running() -> Result<Plan<Line, Running>, Fail> {
     let mut plan = on_line(3, 8)?.start();
-    told(plan.admit(0, flow(0, 1, 1)))?;
-    told(plan.admit(1, flow(0, 1, 3)))?;
-    told(plan.withdraw(0))?;
-    told(plan.admit(2, flow(0, 2, 3)))?;
-    told(plan.admit(3, flow(2, 1, 1)))?;
+    plan.admit(0, flow(0, 1, 1))?;
+    plan.admit(1, flow(0, 1, 3))?;
+    plan.withdraw(0)?;
+    plan.admit(2, flow(0, 2, 3))?;
+    plan.admit(3, flow(2, 1, 1))?;
     Ok(plan)
 }
 

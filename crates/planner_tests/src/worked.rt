@@ -1,8 +1,10 @@
 //! Worked plans over route lists: eleven flows, and a ring.
-use crate::asking::{flow, held, period, told};
+use crate::asking::{flow, held, told};
 use fabric::Fabric;
 use fabric::route_lists::RouteList;
+use planner::periods::Period;
 use planner::plans::Plan;
+use planner::questions::Questions;
 use planner::states::Resting;
 use std::test::Fail;
 
@@ -41,16 +43,16 @@ const FLOWS: [(u16, u16, u64); 11] = [
 
 fn enrol_all<F: Fabric>(plan: &mut Plan<F, Resting>) -> Result<(), Fail> {
     for (number, demand, _) in FLOWS {
-        told(plan.enrol(number, flow(number, 0, demand)))?;
+        plan.enrol(number, flow(number, 0, demand))?;
     }
     Ok(())
 }
 
 #[test]
 fn eleven_flows(rt: HostRuntime) -> Result<(), Fail> {
-    let mut plan = Plan::open(RouteList::new(ELEVEN), period(8)?);
+    let mut plan = Plan::open(RouteList::new(ELEVEN), Period::new(8)?);
     enrol_all(&mut plan)?;
-    told(plan.replan())?;
+    plan.replan()?;
     for (number, demand, slots) in FLOWS {
         assert_eq!(rt; (plan.demand(number), held(&plan, number)), (demand, slots));
     }
@@ -60,10 +62,10 @@ fn eleven_flows(rt: HostRuntime) -> Result<(), Fail> {
 // Flows 1 to 4 all cross link 1, and demand nine slots of eight.
 #[test]
 fn one_slot_too_many(rt: HostRuntime) -> Result<(), Fail> {
-    let mut plan = Plan::open(RouteList::new(ELEVEN), period(8)?);
+    let mut plan = Plan::open(RouteList::new(ELEVEN), Period::new(8)?);
     enrol_all(&mut plan)?;
-    told(plan.withdraw(2))?;
-    told(plan.enrol(2, flow(2, 0, 3)))?;
+    plan.withdraw(2)?;
+    plan.enrol(2, flow(2, 0, 3))?;
     assert_eq!(rt; told(plan.replan()), Err((17, 0b11110)));
     for (number, demand, _) in FLOWS {
         let demand = if number == 2 { 3 } else { demand };
@@ -86,18 +88,18 @@ const RING: &[u8; 31] = b"\
 // With 0 and 2 in one slot and 1 and 3 in the other the ring would have a placing.
 #[test]
 fn a_ring_has_no_order(rt: HostRuntime) -> Result<(), Fail> {
-    let mut plan = Plan::open(RouteList::new(RING), period(2)?);
+    let mut plan = Plan::open(RouteList::new(RING), Period::new(2)?);
     for number in 0..4u16 {
-        told(plan.enrol(number, flow(number, (number + 1) % 4, 1)))?;
+        plan.enrol(number, flow(number, (number + 1) % 4, 1))?;
     }
     assert_eq!(rt; told(plan.replan()), Err((16, 0b1111)));
     // a flow beside the ring is put aside, and the ring remains
-    told(plan.enrol(4, flow(4, 0, 1)))?;
+    plan.enrol(4, flow(4, 0, 1))?;
     assert_eq!(rt; told(plan.replan()), Err((16, 0b1111)));
     assert_eq!(rt; held(&plan, 0), 0);
     // without one of its flows the ring is a path
-    told(plan.withdraw(0))?;
-    told(plan.replan())?;
+    plan.withdraw(0)?;
+    plan.replan()?;
     for (number, slots) in [(1, 0b01), (2, 0b10), (3, 0b01), (4, 0b10)] {
         assert_eq!(rt; held(&plan, number), slots);
     }

@@ -1,14 +1,16 @@
-use Rattle.std.proofs.Common.{true, refl, ap}
-use Rattle.planner.specs.Outcomes.{is_fit}
+use Rattle.std.proofs.Common.{true, refl}
 use Rattle.planner.specs.Shown.{shows}
 use Rattle.planner.proofs.LawHolds.{made}
 use Rattle.planner.proofs.performing.perform_running.Goals as goal
+use Rattle.planner.proofs.performing.perform_running.Goals.{in-Admit, in-Withdraw}
 
-pub returns-in-Admit : goal.returns-in-Admit
-returns-in-Admit g c = record { performed = made (shows g.F.Fabric.meaning true c.args.plan) c.args.call _ _ _ c.in-Admit.is refl c.admit-answer.ensures; fitted = ap is_fit c.in-Admit.is }
+pub returns-in-Rest-clause-performed : goal.returns-in-Rest-clause-performed
+returns-in-Rest-clause-performed g c = made (shows g.F.Fabric.meaning true c.args.plan) c.args.call _ _ _ c.in-Rest.is refl c.rest.ensures
 
-pub returns-in-Withdraw : goal.returns-in-Withdraw
-returns-in-Withdraw g c = record { performed = made (shows g.F.Fabric.meaning true c.args.plan) c.args.call _ _ _ c.in-Withdraw.is refl (c.withdraw-answer.ensures true); fitted = ap is_fit c.in-Withdraw.is }
-
-pub returns-in-Rest : goal.returns-in-Rest
-returns-in-Rest g c = record { performed = made (shows g.F.Fabric.meaning true c.args.plan) c.args.call _ _ _ c.in-Rest.is refl c.rest.ensures; fitted = ap is_fit c.in-Rest.is }
+pub returns-clause-performed : goal.returns-clause-performed
+returns-clause-performed g c =
+    let before = shows g.F.Fabric.meaning true c.args.plan in
+    elim c.match-call.branch [
+      | in-Admit w ↦ rw (w.plan-is, w.answer-is) (made before c.args.call _ _ _ w.in-Admit.is refl w.admit-answer.ensures)
+      | in-Withdraw w ↦ rw (w.plan-is, w.answer-is) (made before c.args.call _ _ _ w.in-Withdraw.is refl (w.withdraw-answer.ensures true))
+    ]

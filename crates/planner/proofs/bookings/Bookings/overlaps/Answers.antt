@@ -1,0 +1,33 @@
+use Rattle.std.proofs.Common.{◌≡◌, ℕ, ◌<◌, ◌≤◌, eqb, not, List, length, sym, refl, ap, ◌∙◌, ⊎_elim, arith}
+use Rattle.std.proofs.lemmas.Bool.{and_left, cases_lt, eq-eqb, not_from_true}
+use Rattle.std.proofs.lemmas.List.{get_or_past}
+use Rattle.planner.specs.declared.bookings.Bookings.{Bookings}
+use Rattle.planner.specs.declared.flow_sets.FlowSet.{FlowSet}
+use Rattle.planner.specs.Bookings.{none_past, overlap_of, overlap_mutual}
+use Rattle.planner.specs.FlowSets.{members}
+use Rattle.planner.specs.Groups.{overlapping}
+use Rattle.planner.specs.LinkSets.{share}
+use Rattle.planner.proofs.Memory.{routes_in, none_overlaps}
+use Rattle.planner.proofs.Tables.{bit_none}
+use Rattle.planner.proofs.bookings.Bookings.overlaps.Goals as goal
+
+-- the groups of all numbers, from those of the numbers below 64
+whole : (bs : Bookings) (groups : List FlowSet) → length groups ≡ 64 →
+    ((f g : ℕ) → f < 64 → overlapping groups f g ≡ overlap_of (routes_in bs) f g) → (f g : ℕ) → overlapping groups f g ≡ overlap_of (routes_in bs) f g
+whole bs groups long each f g =
+    ⊎_elim
+    (λ (low : f < 64). each f g low)
+    (λ (past : 64 ≤ f). ap (λ (x : FlowSet). members x g) (get_or_past groups f (record { 0 = 0 }) (omega arith)) ∙ bit_none g ∙ sym (none_overlaps bs f g (none_past bs f past)))
+    (cases_lt f 64)
+
+pub returns : goal.returns
+returns c = whole c.args.self.now c.loop-n.group-items c.loop-n.invariant.long (λ f g low. c.loop-n.invariant.each f g (omega arith))
+
+pub invariant_of-result : goal.invariant_of-result
+invariant_of-result c =
+    let routes = routes_in c.args.self.now in
+    let is = whole c.args.self.now c.loop-n.group-items c.loop-n.invariant.long (λ f g low. c.loop-n.invariant.each f g (omega arith)) in
+    record {
+      symmetric = λ f g. is f g ∙ overlap_mutual routes f g ∙ sym (is g f);
+      apart = λ f. is f f ∙ and_left (not (eqb f f)) (share (routes f) (routes f)) (not_from_true (eqb f f) (eq-eqb f f refl));
+    }

@@ -19,14 +19,14 @@ held_row s n k all e below same =
     ap (take k) same ∙ take-map-range_with_len (s.holds n) 0 255 k below ∙ ap (λ p. map (s.holds n) (range_with_len 0 p)) e
 
 -- a flow with a label is booked
-pub shown_flow : (s : State) (n : ℕ) (name : Name) (called : List ℕ) (demand wait : ℕ) (row : List Bool)
-    → Named s.shown.booked s.labels → entry_of s.labels n ≡ Some name → called ≡ spelled name → demand ≡ demand_of (s.shown.booked n)
+pub shown_flow : (s : State) (n : ℕ) (name : Name) (demand wait : ℕ) (row : List Bool)
+    → Named s.shown.booked s.labels → entry_of s.labels n ≡ Some name → demand ≡ demand_of (s.shown.booked n)
     → Wait (s.shown.holds n) s.shown.period wait → row ≡ slot_row s.shown n
-    → ShowsFlow s n (flow_line called n demand wait row ∷ [])
-shown_flow s n name called demand wait row named entry c d w r =
+    → ShowsFlow s n (flow_line (spelled name) n demand wait row ∷ [])
+shown_flow s n name demand wait row named entry d w r =
     subst
     (λ l. ShowsFlow s n (l ∷ []))
-    (sym (ap (λ v. flow_line v n demand wait row) c ∙ ap (λ v. flow_line (spelled name) n v wait row) d ∙ ap (flow_line (spelled name) n (demand_of (s.shown.booked n)) wait) r))
+    (sym (ap (λ v. flow_line (spelled name) n v wait row) d ∙ ap (flow_line (spelled name) n (demand_of (s.shown.booked n)) wait) r))
     (there (s.shown.booked n) (ap is_some (sym entry) ∙ named n))
   where
     there : (o : Option Flow) → true ≡ is_some o

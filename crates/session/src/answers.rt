@@ -8,7 +8,7 @@ use script::groups::Group;
 use std::fmt;
 
 /// The answer to the line of this number.
-#[derive(Clone, Copy)]
+#[derive(Clone, Copy, PartialEq, Eq, Debug)]
 pub(crate) struct AnswerLine {
     pub(crate) given: Result<(), ScriptFault>,
     pub(crate) number: usize,

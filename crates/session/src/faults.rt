@@ -10,7 +10,7 @@ use planner::plan_faults::PlanFault;
 use std::fmt;
 
 /// The fault of a line; that of a lower layer stands whole inside.
-#[derive(Clone, Copy)]
+#[derive(Clone, Copy, PartialEq, Eq, Debug)]
 pub(crate) enum ScriptFault {
     /// 6: the line has no form of a script.
     NoForm,

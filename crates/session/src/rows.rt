@@ -1,12 +1,10 @@
 //! Rows of tests: which flows are in a group, and which slots a flow holds.
 ghost use Rattle.std.specs.Prelude.{◌≡◌, map};
 ghost use Rattle.std.specs.List.{range_with_len};
-ghost use Rattle.planner.specs.Outcomes.{any_shows};
 ghost use Rattle.session.specs.Answers.{group_row};
 
-use fabric::Fabric;
-use planner::any_plans::AnyPlan;
 use planner::flow_sets::FlowSet;
+use planner::questions::Questions;
 use std::array;
 
 /// Which of the 64 flows are in the group.
@@ -17,8 +15,8 @@ pub(crate) fn group_row(group: FlowSet) -> [bool; 64]
 }
 
 /// Which of the 255 slots the flow holds; past the period, none.
-pub(crate) fn slot_row<F: Fabric>(plan: &AnyPlan<F>, number: u16) -> [bool; 255]
-    ensures { result ≡ map ((any_shows F.Fabric.meaning plan.now).holds number) (range_with_len 0 255) }
+pub(crate) fn slot_row<Q: Questions>(plan: &Q, number: u16) -> [bool; 255]
+    ensures { result ≡ map ((Q.shown plan.now).holds number) (range_with_len 0 255) }
 {
     array::from_fn(|slot| plan.holds(number, slot as u16))
 }

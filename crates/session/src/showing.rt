@@ -1,5 +1,5 @@
 //! The lines of `show`.
-ghost use Rattle.std.specs.Prelude.{◌≡◌, ℕ, List, Some, OnOk};
+ghost use Rattle.std.specs.Prelude.{ℕ, List, Some, OnOk};
 ghost use Rattle.labels.specs.Names.{spelled};
 ghost use Rattle.session.specs.Parts.{Tells, state_of};
 ghost use Rattle.session.specs.Shows.{ShowsBelow, flow_line};
@@ -10,24 +10,14 @@ use crate::sessions::Session;
 use crate::tellers::Teller;
 use fabric::Fabric;
 use labels::names::Name;
+use planner::questions::Questions;
 use script::ranges::Ranges;
 use std::fmt;
-use std::str::from_utf8;
-
-// The name's letters, as text.
-fn name_text(name: &Name) -> &str
-    ensures { result.now ≡ spelled name.now }
-{
-    match from_utf8(name.as_bytes()) {
-        Ok(text) => text,
-        Err(_) => unreachable(),
-    }
-}
 
 // A booked flow, as `show` tells it.
 #[derive(Clone, Copy)]
 struct FlowLine<'a> {
-    name: &'a str,
+    name: Name,
     number: u16,
     demand: u16,
     wait: u8,
@@ -35,7 +25,7 @@ struct FlowLine<'a> {
 }
 
 impl fmt::Display for FlowLine<'_> {
-    ghost output = { λ line. Some (flow_line line.name.now line.number line.demand line.wait line.held.now) };
+    ghost output = { λ line. Some (flow_line (spelled line.name) line.number line.demand line.wait line.held.now) };
 
     fn fmt<W: fmt::Write>(&self, f: &mut fmt::Formatter<W>) -> fmt::Result {
         let FlowLine {
@@ -61,7 +51,7 @@ impl<F: Fabric + Drop> Session<F> {
                 let number = at as u16;
                 let row = slot_row(&self.plan, number);
                 teller.tell(&FlowLine {
-                    name: name_text(name),
+                    name: *name,
                     number,
                     demand: self.plan.demand(number),
                     wait: self.plan.wait(number),

@@ -1,5 +1,6 @@
 use Rattle.std.proofs.Common.{◌<◌, length, [], ◌∷◌, ◌++◌, None, take, sym, refl, ap, ◌∙◌, subst, arith}
 use Rattle.std.proofs.lemmas.List.{get_or_read}
+use Rattle.labels.specs.Names.{spelled}
 use Rattle.session.specs.Parts.{Tells, state_of}
 use Rattle.session.specs.Shows.{ShowsBelow, flow_line}
 use Rattle.session.proofs.Flows.{held_row, no_flow, shown_flow, shows_more}
@@ -25,8 +26,8 @@ loop-at-preserved g c =
     elim c.match-label.branch [
       | in-Some+in_ok-tell w ↦
           let row = held_row s.shown n w.from.result w.slot_row-row.result (w.from.ensures ∙ w.period.ensures) (omega (arith, w.from.ensures, w.period.type_inv)) w.slot_row-row.ensures in
-          let line = flow_line w.name_text.result.now n w.demand.result w.wait.result (take w.from.result w.slot_row-row.result) in
-          let flow = shown_flow s n w.in-Some.name w.name_text.result.now w.demand.result w.wait.result _ named (entry ∙ w.in-Some.is) w.name_text.ensures w.demand.ensures w.wait.ensures row in
+          let line = flow_line (spelled w.in-Some.name) n w.demand.result w.wait.result (take w.from.result w.slot_row-row.result) in
+          let flow = shown_flow s n w.in-Some.name w.demand.result w.wait.result _ named (entry ∙ w.in-Some.is) w.demand.ensures w.wait.ensures row in
           let told = subst (λ t. Tells took c.loop-at.teller (line ∷ []) t) (sym w.teller-is) (w.in_ok-tell.ensures line refl) in
           (before.0 ++ (line ∷ []), shows_more s n before.0 (line ∷ []) before.1 flow, tells_more took before.0 (line ∷ []) c.args.teller.now c.loop-at.teller c.match-label.teller before.2 told)
       | in_default w ↦

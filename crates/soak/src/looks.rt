@@ -4,8 +4,8 @@ use fabric::overlaps::overlap;
 use planner::any_plans::AnyPlan;
 use planner::questions::Questions;
 
-/// How many slots of the period the flow holds.
-pub(crate) fn held<F: Fabric>(plan: &AnyPlan<F>, number: u16) -> usize {
+// How many slots of the period the flow holds.
+fn held<F: Fabric>(plan: &AnyPlan<F>, number: u16) -> usize {
     (0..u16::from(plan.period()))
         .filter(|slot| plan.holds(number, *slot))
         .count()

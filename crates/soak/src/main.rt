@@ -42,35 +42,37 @@ struct Soak {
     total: Tally,
 }
 
-// Drives a plan over the fabric that is made, then one with a module on its fabric, begun where the first ended. The fabric is
-// made twice: its twin answers for the looks, apart from the plans.
-fn drive_with_module<F: Fabric + Drop, M: Fn() -> anyhow::Result<F>>(
-    rt: &HostRuntime,
-    soak: &mut Soak,
-    name: &str,
-    make: M,
-) -> anyhow::Result<()>
-    requires { M.IsAlwaysCallable make }
-{
-    let twin = make()?;
-    let plan = AnyPlan::Resting(Plan::open(make()?, soak.period));
-    let (driven, tally) = drive(plan, &twin, &mut soak.dice, 1000);
-    println!(rt; "{name}: {tally}")?;
-    soak.total += tally;
-    // at rest, every flow of the plan is placed anew or refused; then a module is put on the fabric
-    let mut rested = match driven {
-        AnyPlan::Running(plan) => plan.rest(),
-        AnyPlan::Resting(plan) => plan,
-    };
-    let placed = rested.replan().is_ok();
-    let module = Module { port: 1, count: 2 };
-    let fits = rested.fits(module).is_ok();
-    println!(rt; "{name}: placed {placed}, a module fits {fits}")?;
-    let fitted = AnyPlan::Resting(rested.fit(module));
-    let (_, more) = drive(fitted, &Spur::new(twin, module), &mut soak.dice, 1500);
-    println!(rt; "{name} with a module: {more}")?;
-    soak.total += more;
-    Ok(())
+impl Soak {
+    // Drives a plan over the fabric that is made, then one with a module on its fabric, begun where the first ended. The
+    // fabric is made twice: its twin answers for the looks, apart from the plans.
+    fn drive_with_module<F: Fabric + Drop, M: Fn() -> anyhow::Result<F>>(
+        &mut self,
+        rt: &HostRuntime,
+        name: &str,
+        make: M,
+    ) -> anyhow::Result<()>
+        requires { M.IsAlwaysCallable make }
+    {
+        let twin = make()?;
+        let plan = AnyPlan::Resting(Plan::open(make()?, self.period));
+        let (driven, tally) = drive(plan, &twin, &mut self.dice, 1000);
+        println!(rt; "{name}: {tally}")?;
+        self.total += tally;
+        // at rest, every flow of the plan is placed anew or refused; then a module is put on the fabric
+        let mut rested = match driven {
+            AnyPlan::Running(plan) => plan.rest(),
+            AnyPlan::Resting(plan) => plan,
+        };
+        let placed = rested.replan().is_ok();
+        let module = Module { port: 1, count: 2 };
+        let fits = rested.fits(module).is_ok();
+        println!(rt; "{name}: placed {placed}, a module fits {fits}")?;
+        let fitted = AnyPlan::Resting(rested.fit(module));
+        let (_, more) = drive(fitted, &Spur::new(twin, module), &mut self.dice, 1500);
+        println!(rt; "{name} with a module: {more}")?;
+        self.total += more;
+        Ok(())
+    }
 }
 
 fn line() -> anyhow::Result<Line> {
@@ -98,10 +100,10 @@ fn run(rt: &HostRuntime) -> anyhow::Result<()> {
         period: Period::new(9).map_err(|_| anyhow!("the period"))?,
         total: Tally::default(),
     };
-    drive_with_module(rt, &mut soak, "line", line)?;
-    drive_with_module(rt, &mut soak, "tree", tree)?;
-    drive_with_module(rt, &mut soak, "ring", ring)?;
-    drive_with_module(rt, &mut soak, "spur", spur)?;
+    soak.drive_with_module(rt, "line", line)?;
+    soak.drive_with_module(rt, "tree", tree)?;
+    soak.drive_with_module(rt, "ring", ring)?;
+    soak.drive_with_module(rt, "spur", spur)?;
     let total = soak.total;
     println!(rt; "total: {total}")?;
     Ok(())

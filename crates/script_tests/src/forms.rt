@@ -3,6 +3,7 @@ use script::commands::{Command, read_command};
 use script::descriptions::{Description, read_description};
 use script::lines::Lines;
 use script::openings::read_opening;
+use std::array;
 
 // Whether each line is a command, or none is.
 fn all_commands(script: &[u8], wanted: bool) -> bool {
@@ -50,10 +51,7 @@ fn no_commands(rt: HostRuntime) {
 // The numbers of the flow that is enrolled, if it has this name.
 fn enrolled(line: &[u8], name: &[u8]) -> Option<(u16, u16, u16, u16)> {
     match read_command(line)? {
-        Command::Enrol(flow) => {
-            if flow.name.as_bytes() != name {
-                return None;
-            }
+        Command::Enrol(flow) if flow.name.as_bytes() == name => {
             Some((flow.number, flow.source, flow.destination, flow.demand))
         }
         _ => None,
@@ -79,18 +77,15 @@ fn parents_of(line: &[u8]) -> Option<usize> {
 
 // The same, of so many zeros after `tree`.
 fn parents_of_zeros(count: usize) -> Option<usize> {
-    let mut line = [b' '; 300];
-    line[0] = b't';
-    line[1] = b'r';
-    line[2] = b'e';
-    line[3] = b'e';
-    for at in 0..140usize {
-        line[5 + 2 * at] = b'0';
-    }
+    let line: [u8; 300] = array::from_fn(|at| match b"tree".get(at) {
+        Some(letter) => *letter,
+        None if at % 2 == 0 => b' ',
+        None => b'0',
+    });
     if count > 140 {
         return None;
     }
-    parents_of(&line[0..4 + 2 * count])
+    parents_of(&line[..4 + 2 * count])
 }
 
 #[test]

@@ -1,6 +1,7 @@
 -- The links of a pair's route, and what it crosses.
 use Rattle.std.proofs.Common.{◌≡◌, ap, ℕ, Bool, true, false, ◌&&◌, ◌||◌, cond, List, [], ◌∷◌, Option, None, Some, MatchOption, refl, subst, sym, ◌∙◌}
 use Rattle.std.proofs.lemmas.Bool.{or_from, or_parts, and_left}
+use Rattle.std.proofs.Math.Bool.{or-false}
 use Rattle.std.specs.List.{find}
 use Rattle.std.specs.Option.{is_some, option_map, option_map_or}
 use Rattle.fabric.specs.declared.pairs.Pair.{Pair}
@@ -16,11 +17,7 @@ crosses_none (r ∷ rs) p k e =
 
 -- the pair's route is the first, or one of the others
 crosses_first : (b others : Bool) (r : Route) (found : Option Route) (k : ℕ) → (b ≡ true → others ≡ false) → (b ≡ false → others ≡ option_map_or (among k) (option_map (λ x. x.links) found) false) → ((b && among k r.links) || others) ≡ option_map_or (among k) (option_map (λ x. x.links) (cond b (Some r) found)) false
-crosses_first true others r found k none more = rw (none refl) (or_false (among k r.links))
-  where
-    or_false : (b : Bool) → (b || false) ≡ b
-    or_false true = refl
-    or_false false = refl
+crosses_first true others r found k none more = rw (none refl) (or-false (among k r.links))
 crosses_first false others r found k none more = more refl
 
 joins_first : (b others : Bool) (r : Route) (found : Option Route) → is_some (option_map (λ x. x.links) found) ≡ others → is_some (option_map (λ x. x.links) (cond b (Some r) found)) ≡ (b || others)

@@ -3,7 +3,7 @@ use Rattle.std.proofs.Common.{◌≡◌, ℕ, zero, suc, ◌+◌, ◌<◌, ◌�
 use Rattle.std.proofs.lemmas.List.{append_assoc, length-drop, length-take, length-append, take-append-drop, drop-drop, drop_more, take_at, drop_at}
 use Rattle.std.specs.List.{flat_map}
 use Rattle.fabric.specs.RouteLists.{Route, encode_route}
-use Rattle.fabric.specs.RouteReading.{route_at, next_at, routes_from, end_from, first_end}
+use Rattle.fabric.specs.RouteReading.{route_at, next_at, routes_from, end_from}
 
 -- one more route at the end
 pub end_more : (bs : List ℕ) (n at : ℕ) → end_from bs (suc n) at ≡ next_at bs (end_from bs n at)
@@ -95,6 +95,3 @@ routes_split bs (suc n) zero at h = let z : ⊥ = omega arith in absurd z
 routes_split bs (suc n) (suc m) at h =
     let s = routes_split bs n m (next_at bs at) (omega arith) in
     (s.0, ap (λ rs. route_at bs at ∷ rs) s.1, s.2)
-
-pub next_within : (bs : List ℕ) (n m : ℕ) → n < m → first_end bs m ≤ length bs → next_at bs (first_end bs n) ≤ length bs
-next_within bs n m h fits = omega (arith, (routes_split bs n m 7 h).2)

@@ -1,5 +1,5 @@
 -- The bytes that a route list keeps: they are accepted, and what a reader needs of that.
-use Rattle.std.proofs.Common.{◌≡◌, ℕ, ◌<◌, ◌≤◌, false, List, [], ◌∷◌, length, sym, refl, ap, subst, arith}
+use Rattle.std.proofs.Common.{◌≡◌, ℕ, ◌<◌, false, List, [], ◌∷◌, length, sym, refl, ap, subst, arith}
 use Rattle.std.proofs.Math.Bool.{Bool-set}
 use Rattle.std.proofs.Math.Logic.{∥∥₁_elim}
 use Rattle.std.proofs.Math.Bridge.{le_prop}
@@ -48,9 +48,6 @@ kept_lawful bs kept =
 
 pub kept_whole : (bs : List ℕ) → ∥ Accepted bs ∥₁ → first_end bs (stated_routes bs) ≡ length bs
 kept_whole bs kept = ∥∥₁_elim kept (ℕ_set _ _) (λ a. (reads_as a.0 bs a.1 a.2).whole)
-
-pub kept_size : (bs : List ℕ) → ∥ Accepted bs ∥₁ → 7 ≤ length bs
-kept_size bs kept = ∥∥₁_elim kept le_prop (λ a. ((reads_as a.0 bs a.1 a.2).header 0 (omega arith)).0)
 
 -- the fabric with no route is lawful
 pub bare_lawful : Lawful bare

@@ -1,20 +1,14 @@
 -- What lawful routes give: the laws of a fabric, one more route at the end, and the one route of a pair.
-use Rattle.std.proofs.Common.{◌≡◌, ℕ, ◌<◌, ◌≤◌, Bool, true, false, ◌&&◌, ◌||◌, eqb, List, [], ◌∷◌, ◌++◌, length, sym, refl, ap, ◌∙◌, subst, ⊎_elim, arith}
+use Rattle.std.proofs.Common.{◌≡◌, ℕ, ◌<◌, ◌≤◌, true, false, ◌&&◌, ◌||◌, eqb, List, [], ◌∷◌, ◌++◌, length, sym, refl, ap, ◌∙◌, subst, ⊎_elim, arith}
 use Rattle.std.proofs.lemmas.Bool.{or_cases, or_parts, or_from, or_left, or_right, and_parts, and_from, eqb-true, eq-eqb, true≢false}
 use Rattle.std.proofs.lemmas.Bool.Decides.{nat_tests}
+use Rattle.std.proofs.Math.Bool.{or-false}
+use Rattle.std.proofs.lemmas.List.Folds.{list_any-append}
 use Rattle.std.proofs.ByRecursion.{All-push}
 use Rattle.std.specs.List.{AllByRecursion}
 use Rattle.fabric.specs.declared.pairs.Pair.{Pair}
 use Rattle.fabric.specs.Meaning.{KeepsRoutes}
 use Rattle.fabric.specs.RouteLists.{Route, Listing, ends, joins, among, some_joins, some_crosses, listed, LawfulRoute, LawfulRoutes, Lawful, Distinct}
-
-or_false : (b : Bool) → (b || false) ≡ b
-or_false true = refl
-or_false false = refl
-
-or_assoc : (a b c : Bool) → (a || (b || c)) ≡ ((a || b) || c)
-or_assoc true b c = refl
-or_assoc false b c = refl
 
 -- the route of a pair, with what holds of each route
 pub one_joins : (P : Route → Type 0) (rs : List Route) (p : Pair) → AllByRecursion P rs → some_joins rs p ≡ true → (r : Route) × P r × (joins r p ≡ true)
@@ -93,9 +87,8 @@ list_keeps v ok =
 
 -- a route more at the end
 pub joins_push : (rs : List Route) (r : Route) (p : Pair) → some_joins (rs ++ r ∷ []) p ≡ (some_joins rs p || joins r p)
-joins_push [] r p = or_false (joins r p)
-joins_push (x ∷ rs) r p =
-    ap (λ b. joins x p || b) (joins_push rs r p) ∙ or_assoc (joins x p) (some_joins rs p) (joins r p)
+joins_push rs r p =
+    list_any-append (λ x. joins x p) rs (r ∷ []) ∙ ap (λ b. some_joins rs p || b) (or-false (joins r p))
 
 joins_symmetric : (r s : Route) → joins r (ends s) ≡ joins s (ends r)
 joins_symmetric r s = grind (arith, nat_tests)
@@ -112,12 +105,9 @@ lawful_push t l rs r ok one new =
 
 -- a route in the middle is lawful, and none before it has its pair
 joins_middle : (rs more : List Route) (r : Route) (p : Pair) → some_joins (rs ++ r ∷ more) p ≡ false → joins r p ≡ false
-joins_middle [] more r p e = (or_parts (joins r p) (some_joins more p) e).0
-joins_middle (x ∷ rs) more r p e = joins_middle rs more r p (or_parts (joins x p) (some_joins (rs ++ r ∷ more) p) e).1
-
-pub joins_here : (rs more : List Route) (r : Route) (p : Pair) → joins r p ≡ true → some_joins (rs ++ r ∷ more) p ≡ true
-joins_here [] more r p e = or_left (joins r p) (some_joins more p) e
-joins_here (x ∷ rs) more r p e = or_right (joins x p) (some_joins (rs ++ r ∷ more) p) (joins_here rs more r p e)
+joins_middle rs more r p e =
+    let parts = or_parts (some_joins rs p) (some_joins (r ∷ more) p) (sym (list_any-append (λ x. joins x p) rs (r ∷ more)) ∙ e) in
+    (or_parts (joins r p) (some_joins more p) parts.1).0
 
 distinct_middle : (rs more : List Route) (r : Route) → Distinct (rs ++ r ∷ more) → some_joins rs (ends r) ≡ false
 distinct_middle [] more r d = refl

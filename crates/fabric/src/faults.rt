@@ -27,16 +27,15 @@ impl FabricFault {
     }
 }
 
-/// `no`, the number and its values, as the programs print it.
+/// `no`, the number and its values, as the programs print it. By hand, since no derive states `output`.
 impl fmt::Display for FabricFault {
     ghost output = { λ fault. Some (fault_text fault) };
 
     fn fmt<W: fmt::Write>(&self, f: &mut fmt::Formatter<W>) -> fmt::Result {
         let number = self.number();
         match *self {
-            FabricFault::OutsideLimits => write!(f, "no {number}"),
             FabricFault::BadList { place } => write!(f, "no {number} {place}"),
-            FabricFault::Misfit => write!(f, "no {number}"),
+            FabricFault::OutsideLimits | FabricFault::Misfit => write!(f, "no {number}"),
         }
     }
 }

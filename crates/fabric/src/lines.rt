@@ -19,7 +19,7 @@ impl Line {
     pub fn new(terminals: u16) -> Result<Line, FabricFault>
         ensures { MatchResult result (λ line. LineSize terminals × (line.terminals ≡ terminals)) (λ fault. (LineSize terminals → ⊥) × (numbered fault ≡ (2, []))) }
     {
-        if terminals < 2 || terminals > 128 {
+        if !(2..=128).contains(&terminals) {
             return Err(FabricFault::OutsideLimits);
         }
         Ok(Line { terminals })
@@ -46,6 +46,6 @@ impl Fabric for Line {
     fn crosses(&self, pair: Pair, link: u16) -> bool {
         let low = pair.source.min(pair.destination);
         let high = pair.source.max(pair.destination);
-        self.routed(pair) && low <= link && link < high
+        self.routed(pair) && (low..high).contains(&link)
     }
 }

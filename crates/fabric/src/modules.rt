@@ -31,7 +31,7 @@ impl Module {
     pub fn fits(self, below: Size) -> Result<(), FabricFault>
         ensures { Judged below self result }
     {
-        if self.count < 1 || self.count > 8 {
+        if !(1..=8).contains(&self.count) {
             return Err(FabricFault::OutsideLimits);
         }
         let room = below.terminals <= 128 - self.count && below.links <= 256 - 2;
@@ -60,8 +60,7 @@ impl Module {
         ensures { result ≡ added below self terminal }
     {
         self.fits(below).is_ok()
-            && below.terminals <= terminal
-            && terminal < below.terminals + self.count
+            && (below.terminals..below.terminals + self.count).contains(&terminal)
     }
 
     /// What is left of a pair below when its source is in the module.

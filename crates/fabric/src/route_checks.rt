@@ -32,11 +32,11 @@ fn check_header(bytes: &[u8]) -> Result<ListSummary, FabricFault>
         return Err(FabricFault::BadList { place: 2 });
     }
     let terminals = u16::from(bytes[3]);
-    if terminals < 2 || terminals > 128 {
+    if !(2..=128).contains(&terminals) {
         return Err(FabricFault::BadList { place: 3 });
     }
     let links = u16::from_be_bytes([bytes[4], bytes[5]]);
-    if links < 1 || links > 256 {
+    if !(1..=256).contains(&links) {
         return Err(FabricFault::BadList { place: 4 });
     }
     Ok(ListSummary {
@@ -73,7 +73,9 @@ struct Reading<'a> {
 impl<'a> Reading<'a> {
     /// The two ends of the next route.
     fn check_ends(&self) -> Result<(), FabricFault>
-        ensures { MatchResult result (λ _. ((k : ℕ) → k < 2 → Kept self.now.bytes.now (first_routes self.now.bytes.now self.now.passed) self.now.at k)) (λ fault. RouteBroken self.now.bytes.now (first_routes self.now.bytes.now self.now.passed) self.now.at fault) }
+        ensures { MatchResult result
+            (λ _. (k : ℕ) → k < 2 → Kept self.now.bytes.now (first_routes self.now.bytes.now self.now.passed) self.now.at k)
+            (λ fault. RouteBroken self.now.bytes.now (first_routes self.now.bytes.now self.now.passed) self.now.at fault) }
     {
         let source = u16::from(byte_at(self.bytes, self.at)?);
         if source >= self.summary.terminals {
@@ -94,7 +96,11 @@ impl<'a> Reading<'a> {
     /// The reading past the next route, which is checked byte by byte.
     fn pass_route(&self) -> Result<Reading<'a>, FabricFault>
         requires { self.now.passed < 255 }
-        ensures { MatchResult result (λ next. (next.bytes ≡ self.now.bytes) × (next.summary ≡ self.now.summary) × (next.passed ≡ self.now.passed + 1) × ((k : ℕ) → k < 3 + slice_index self.now.bytes.now (self.now.at + 2) → Kept self.now.bytes.now (first_routes self.now.bytes.now self.now.passed) self.now.at k)) (λ fault. RouteBroken self.now.bytes.now (first_routes self.now.bytes.now self.now.passed) self.now.at fault) }
+        ensures { MatchResult result
+            (λ next. (next.bytes ≡ self.now.bytes) × (next.summary ≡ self.now.summary) × (next.passed ≡ self.now.passed + 1)
+            × ((k : ℕ) → k < 3 + slice_index self.now.bytes.now (self.now.at + 2)
+            → Kept self.now.bytes.now (first_routes self.now.bytes.now self.now.passed) self.now.at k))
+            (λ fault. RouteBroken self.now.bytes.now (first_routes self.now.bytes.now self.now.passed) self.now.at fault) }
     {
         self.check_ends()?;
         let count = usize::from(byte_at(self.bytes, self.at + 2)?);

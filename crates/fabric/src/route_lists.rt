@@ -6,10 +6,10 @@ ghost use Rattle.fabric.specs.RouteReading.{bytes_meaning, decoded, links_of};
 ghost use Rattle.fabric.specs.RouteLaws.{list_keeps};
 ghost use Rattle.fabric.specs.RouteKept.{kept_lawful};
 
+use crate::Fabric;
 use crate::pairs::Pair;
 use crate::route_checks::check;
 use crate::route_scans::find;
-use crate::{Fabric, Size};
 
 /// The list of two terminals, one link and no route.
 static BARE: [u8; 7] = [0, 5, 1, 2, 0, 1, 0];
@@ -62,14 +62,6 @@ impl Fabric for RouteList<'_> {
 
     fn crosses(&self, pair: Pair, link: u16) -> bool {
         self.route(pair).is_some_and(|links| names(links, link))
-    }
-
-    // Written here, since the trait's own body is not taken over by an impl with a lifetime.
-    fn size(&self) -> Size {
-        Size {
-            terminals: self.terminals(),
-            links: self.links(),
-        }
     }
 }
 

@@ -47,10 +47,7 @@ const DAMAGED: [(usize, [u8; 2], usize, usize); 27] = [
 
 // Where the first `size` bytes are refused.
 fn place_of(bytes: &[u8], size: usize) -> Option<usize> {
-    if size > bytes.len() {
-        return None;
-    }
-    match check(&bytes[0..size]) {
+    match check(bytes.get(..size)?) {
         Err(FabricFault::BadList { place }) => Some(place),
         _ => None,
     }
@@ -62,8 +59,7 @@ fn refused_at(at: usize, two: [u8; 2], size: usize) -> Option<usize> {
         return None;
     }
     let mut bytes = RING;
-    bytes[at] = two[0];
-    bytes[at + 1] = two[1];
+    bytes[at..at + 2].copy_from_slice(&two);
     place_of(&bytes, size)
 }
 

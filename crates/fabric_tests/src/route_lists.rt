@@ -36,7 +36,7 @@ fn a_ring(rt: HostRuntime) {
 
 #[test]
 fn a_refused_list(rt: HostRuntime) {
-    let bare = RouteList::new(&RING[0..26]);
+    let bare = RouteList::new(&RING[..26]);
     assert_eq!(rt;
         bare.size(),
         Size {

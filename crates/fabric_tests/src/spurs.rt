@@ -1,10 +1,10 @@
 //! Spurs: worked routes, also of a spur on a spur, and what fits.
-use fabric::Fabric;
 use fabric::faults::FabricFault;
 use fabric::lines::Line;
-use fabric::modules::Module;
+use fabric::modules::{Hop, Module};
 use fabric::pairs::Pair;
 use fabric::spurs::{Spur, fits};
+use fabric::{Fabric, Size};
 use std::process::Abort;
 use std::test::Fail;
 
@@ -44,6 +44,49 @@ fn a_misfit_adds_nothing(rt: HostRuntime) -> Result<(), Fail> {
     let spur = Spur::new(line, Module { port: 9, count: 2 });
     expect(&rt, &spur, size, &[Row(0, 2, &[0, 1]), Row(3, 0, &[])]);
     Ok(())
+}
+
+#[test]
+fn ways_by_a_module(rt: HostRuntime) {
+    let below = Size {
+        terminals: 3,
+        links: 2,
+    };
+    let module = Module { port: 1, count: 2 };
+    for (source, destination, way) in [
+        (0, 2, Hop::Below),
+        (
+            3,
+            0,
+            Hop::Out(Pair {
+                source: 1,
+                destination: 0,
+            }),
+        ),
+        (
+            3,
+            4,
+            Hop::Out(Pair {
+                source: 1,
+                destination: 4,
+            }),
+        ),
+        (
+            1,
+            4,
+            Hop::In(Pair {
+                source: 1,
+                destination: 1,
+            }),
+        ),
+        (0, 5, Hop::Below),
+    ] {
+        let pair = Pair {
+            source,
+            destination,
+        };
+        assert_eq!(rt; module.hop(below, pair), way);
+    }
 }
 
 #[test]

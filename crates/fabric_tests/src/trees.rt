@@ -15,8 +15,8 @@ fn climbs_and_descends(rt: HostRuntime) -> Result<(), Fail> {
     };
     assert_eq!(rt; tree.links(), 6);
     let crossed = [true, false, false, true, true, false, false];
-    for (link, wanted) in crossed.iter().enumerate() {
-        assert_eq!(rt; tree.crosses(pair, link as u16), *wanted);
+    for (link, wanted) in (0..7).zip(crossed) {
+        assert_eq!(rt; tree.crosses(pair, link), wanted);
     }
     Ok(())
 }

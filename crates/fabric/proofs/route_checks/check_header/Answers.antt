@@ -1,25 +1,20 @@
-use Rattle.std.proofs.Common.{refl, arith, below_none, below_more}
+use Rattle.std.proofs.Common.{rules, refl, arith, below_none, below_more}
+use Rattle.std.proofs.lemmas.Grind.{common_steps}
 use Rattle.fabric.specs.RouteRefusals.{HeaderRule}
 use Rattle.fabric.proofs.route_checks.check_header.Goals as goal
 
-pub returns-then-bytes-ne1 : goal.returns-then-bytes-ne1
-returns-then-bytes-ne1 c =
+-- the rules of the fields before are kept
+pub returns-then-not-contains : goal.returns-then-not-contains
+returns-then-not-contains c =
     let rule = HeaderRule c.args.bytes.now in
-    let size : rule 0 = (omega arith, omega arith) in
-    (1, omega arith, below_more rule 0 (below_none rule) size, c.if-bytes-ne1.true, refl)
+    let size : rule 0 = search rules in
+    let before = below_more rule 1 (below_more rule 0 (below_none rule) size) c.if-bytes-ne1.false in
+    (2, omega arith, before, λ terminals. grind (arith, common_steps, terminals.0, terminals.1, c.if-not-contains.ensures.cases), refl)
 
-pub returns-then-terminals-lt2 : goal.returns-then-terminals-lt2
-returns-then-terminals-lt2 c =
+pub returns-then-not-contains-2 : goal.returns-then-not-contains-2
+returns-then-not-contains-2 c =
     let rule = HeaderRule c.args.bytes.now in
-    let size : rule 0 = (omega arith, omega arith) in
-    let one = below_more rule 0 (below_none rule) size in
-    (2, omega arith, below_more rule 1 one c.if-bytes-ne1.false, λ t. omega arith, refl)
-
-pub returns-then-links-lt1 : goal.returns-then-links-lt1
-returns-then-links-lt1 c =
-    let rule = HeaderRule c.args.bytes.now in
-    let size : rule 0 = (omega arith, omega arith) in
-    let one = below_more rule 0 (below_none rule) size in
-    let two = below_more rule 1 one c.if-bytes-ne1.false in
-    let terminals : rule 2 = (omega arith, omega arith) in
-    (3, omega arith, below_more rule 2 two terminals, λ l. omega arith, refl)
+    let size : rule 0 = search rules in
+    let terminals : rule 2 = search rules in
+    let before = below_more rule 2 (below_more rule 1 (below_more rule 0 (below_none rule) size) c.if-bytes-ne1.false) terminals in
+    (3, omega arith, before, λ links. grind (arith, common_steps, links.0, links.1, c.if-not-contains-2.ensures.cases), refl)

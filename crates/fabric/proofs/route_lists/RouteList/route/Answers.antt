@@ -1,9 +1,6 @@
 use Rattle.std.proofs.Common.{arith}
-use Rattle.fabric.specs.RouteKept.{kept_size, kept_whole}
+use Rattle.fabric.specs.RouteKept.{kept_whole}
 use Rattle.fabric.proofs.route_lists.RouteList.route.Goals as goal
-
-pub bounds-self-6 : goal.bounds-self-6
-bounds-self-6 c = omega (arith, kept_size c.args.self.now.bytes.now c.args.self.now.kept)
 
 pub find-requires : goal.find-requires
 find-requires c = omega (arith, kept_whole c.args.self.now.bytes.now c.args.self.now.kept)

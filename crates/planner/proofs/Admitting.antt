@@ -14,11 +14,6 @@ pub beside_is : (bs : Bookings) (met links route : ℕ → Bool) → ((n : ℕ) 
     met ≡ (λ n. share route (kept_route (booking_at bs n)))
 beside_is bs met links route is same = fun_ext (λ n. is n ∙ ap (λ r. share r (kept_route (booking_at bs n))) (fun_ext same))
 
--- a flow that is not booked holds nothing
-pub unheld : (bs : Bookings) (t : ℕ → ℕ → Bool) (n : ℕ) → ((k s : ℕ) → t k s ≡ true → is_some (booking_at bs k) ≡ true) → booking_at bs n ≡ None → (s : ℕ) → t n s ≡ false
-unheld bs t n owned none s =
-    ⊎_elim (λ held. absurd (both_ways (is_some (booking_at bs n)) (ap is_some none) (owned n s held))) (λ e. e) (cases_Bool (t n s))
-
 -- after a flow was given slots and booked, only booked flows hold slots, and only slots of the period
 module _ (bs new : Bookings) (t u : ℕ → ℕ → Bool) (n : ℕ) (b : Booking) (k : ℕ → Bool) (d period : ℕ) (given : Given t u 64 n k d period)
     (is : (i : ℕ) → booking_at new i ≡ cond (eqb i n) (Some b) (booking_at bs i)) where

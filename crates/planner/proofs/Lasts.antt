@@ -1,6 +1,6 @@
 -- Which flow may come last, by the group of the flows that overlap it.
-use Rattle.std.proofs.Common.{◌≡◌, ℕ, Bool, true, false, cond, ◌&&◌, T, eqb, sym, refl, ap, ◌∙◌, subst, ⊎_elim}
-use Rattle.std.proofs.lemmas.Bool.{false≢true, and_parts, and_from, cases_eq, eq-eqb, ne_eqb, cond-true, cond-false}
+use Rattle.std.proofs.Common.{◌≡◌, ℕ, Bool, true, false, cond, ◌&&◌, eqb, sym, ap, ◌∙◌, subst, ⊎_elim}
+use Rattle.std.proofs.lemmas.Bool.{false≢true, both_ways, and_parts, and_from, cases_eq, eq-eqb, ne_eqb, cond-true, cond-false}
 use Rattle.planner.specs.Orders.{without, beside, MayComeLast}
 use Rattle.planner.proofs.Sets.{without_from, without_parts, tells_apart}
 
@@ -45,21 +45,13 @@ module _ (q q' : ℕ → Bool) (f : ℕ) (taken : (k : ℕ) → q' k ≡ cond (e
       (λ ne. before k (sym (taken k ∙ cond-false (eqb k f) false (q k) (ne_eqb k f ne)) ∙ out))
       (cases_eq k f)
 
-pub is_true : (t : Bool) → T t → t ≡ true
-is_true true t = refl
-is_true false t = absurd t
-
 -- the test for OverlapsRest, by a set without f that is to be within the group of f
 module _ (ov : ℕ → ℕ → Bool) (b rest u : ℕ → Bool) (f : ℕ) (removed : (g : ℕ) → rest g ≡ cond (eqb g f) false (b g)) (group : (g : ℕ) → u g ≡ ov f g) where
-  pub within_rest : ((g : ℕ) → T (rest g) → T (u g)) → OverlapsRest ov b f
-  within_rest w g bg ne =
-      let out : rest g ≡ true = removed g ∙ cond-false (eqb g f) false (b g) (ne_eqb g f (λ e. ne (sym e))) ∙ bg in
-      sym (group g) ∙ is_true (u g) (w g (subst T (sym out) tt))
+  pub within_rest : ((g : ℕ) → rest g ≡ true → u g ≡ true) → OverlapsRest ov b f
+  within_rest w g bg ne = sym (group g) ∙ w g (removed g ∙ cond-false (eqb g f) false (b g) (ne_eqb g f (λ e. ne (sym e))) ∙ bg)
 
-  pub rest_within : OverlapsRest ov b f → (g : ℕ) → T (rest g) → T (u g)
-  rest_within all g t = ⊎_elim
-      (λ (e : g ≡ f). absurd (subst T (removed g ∙ cond-true (eqb g f) false (b g) (eq-eqb g f e)) t))
-      (λ ne.
-      let in' : b g ≡ true = sym (removed g ∙ cond-false (eqb g f) false (b g) (ne_eqb g f ne)) ∙ is_true (rest g) t in
-      subst T (sym (group g ∙ all g in' (λ e. ne (sym e)))) tt)
+  pub rest_within : OverlapsRest ov b f → (g : ℕ) → rest g ≡ true → u g ≡ true
+  rest_within all g in' = ⊎_elim
+      (λ (e : g ≡ f). absurd (both_ways (rest g) (removed g ∙ cond-true (eqb g f) false (b g) (eq-eqb g f e)) in'))
+      (λ ne. group g ∙ all g (sym (removed g ∙ cond-false (eqb g f) false (b g) (ne_eqb g f ne)) ∙ in') (λ e. ne (sym e)))
       (cases_eq g f)

@@ -1,13 +1,15 @@
 -- Links in words of 64 bits.
-use Rattle.std.proofs.Common.{◌≡◌, ℕ, ◌+◌, ◌*◌, ◌/◌, ◌%◌, ◌^◌, ◌<◌, ◌≤◌, Bool, true, false, cond, not, T, eqb, List, length, get_or, set, sym, refl, ap, ◌∙◌, subst, ⊎_elim, arith, get_or-set_other, get_or-set_same, eq-eqb, ne_eqb}
-use lib.Bits.{bit_and, bit_or}
+use Rattle.std.proofs.Common.{◌≡◌, ℕ, ◌+◌, ◌*◌, ◌/◌, ◌%◌, ◌^◌, ◌<◌, ◌≤◌, true, false, cond, eqb, List, length, get_or, set, sym, ap, ◌∙◌, subst, ⊎_elim, arith, get_or-set_other, get_or-set_same}
+use lib.Bits.{bit_or}
 use Rattle.std.proofs.lemmas.List.{get_or_past}
 use Rattle.std.proofs.lemmas.Bool.Decides.{eqb_tells, nat_tests}
-use Rattle.std.proofs.lemmas.Bool.{cases_lt}
+use Rattle.std.proofs.lemmas.Bool.{cases_lt, both_ways}
+use Rattle.std.proofs.lemmas.Slice.Zip.{get_or-zip, length-zip}
+use Rattle.std.specs.List.{zip, AllWithin, HoldsAt}
 use Rattle.planner.specs.declared.link_sets.LinkSet.{LinkSet}
 use Rattle.planner.specs.FlowSets.{bit}
 use Rattle.planner.specs.LinkSets.{crossing}
-use Rattle.planner.proofs.Bits.{bit_insert, meet_some, meet_all, zero_none}
+use Rattle.planner.proofs.Bits.{bit_insert, bit_none}
 
 -- one link more
 pub insert_at : (ws : List ℕ) (l k : ℕ) → length ws ≡ 4 → l < 256 →
@@ -26,29 +28,35 @@ insert_at ws l k four small =
     ∙ ap (λ b. cond b true (bit (get_or ws (k / 64) 0) (k % 64))) (sym other))
     (eqb_tells (k / 64) (l / 64))
 
-set_true : (b : Bool) → T b → b ≡ true
-set_true true t = refl
-set_true false t = absurd t
+-- two words have a bit in common
+abbrev pub Meet : ℕ × ℕ → Type 0
+Meet p = (n : ℕ) × (n < 64) × (bit p.0 n ≡ true) × (bit p.1 n ≡ true)
 
--- two words with a common bit have a common link
-pub common_link : (xs ys : List ℕ) (w : ℕ) → get_or xs w 0 < 2 ^ 64 → (bit_and (get_or xs w 0) (get_or ys w 0) ≡ 0 → ⊥) →
-    (k : ℕ) × (bit (get_or xs (k / 64) 0) (k % 64) ≡ true) × (bit (get_or ys (k / 64) 0) (k % 64) ≡ true)
-common_link xs ys w fits some =
-    let test : T (not (eqb (bit_and (get_or xs w 0) (get_or ys w 0)) 0)) = subst (λ b. T (not b)) (sym (ne_eqb _ 0 some)) tt in
-    let m = meet_some 64 (get_or xs w 0) (get_or ys w 0) fits test in
-    let word : (w * 64 + m.0) / 64 ≡ w = omega (arith, m.1) in
-    let place : (w * 64 + m.0) % 64 ≡ m.0 = omega (arith, m.1) in
-    (w * 64 + m.0, rw (word, place) (set_true _ m.2), rw (word, place) (set_true _ m.3))
+-- words of two sets that meet have a common link
+module _ (xs ys : List ℕ) (same : length xs ≡ length ys) where
+  pairs : (w : ℕ) → w < length xs → get_or (zip xs ys) w (0, 0) ≡ (get_or xs w 0, get_or ys w 0)
+  pairs w l = get_or-zip xs ys w (0, 0) l (omega arith)
 
--- two words with no common bit have none
-pub no_common : (x y n : ℕ) → bit_and x y ≡ 0 → bit x n ≡ true → bit y n ≡ true → ⊥
-no_common x y n none a b =
-    let test = meet_all x y n (subst T (sym a) tt) (subst T (sym b) tt) in
-    subst (λ b. T (not b)) (eq-eqb (bit_and x y) 0 none) test
+  size : length (zip xs ys) ≡ length xs
+  size = let e = length-zip xs ys in omega arith
+
+  pub common_link : (w : ℕ) → w < length (zip xs ys) → HoldsAt Meet (zip xs ys) w → (k : ℕ) × (bit (get_or xs (k / 64) 0) (k % 64) ≡ true) × (bit (get_or ys (k / 64) 0) (k % 64) ≡ true)
+  common_link w l met =
+      let m = subst Meet (pairs w (omega (arith, size))) (met (0, 0)) in
+      let word : (w * 64 + m.0) / 64 ≡ w = omega (arith, m.1) in
+      let place : (w * 64 + m.0) % 64 ≡ m.0 = omega (arith, m.1) in
+      (w * 64 + m.0, rw (word, place) m.2, rw (word, place) m.3)
+
+  -- and where none meet there is none
+  pub no_common : AllWithin (λ p. Meet p → ⊥) (zip xs ys) 0 (length (zip xs ys)) → (k : ℕ) → k / 64 < length xs →
+      bit (get_or xs (k / 64) 0) (k % 64) ≡ true → bit (get_or ys (k / 64) 0) (k % 64) ≡ true → ⊥
+  no_common none k l a b =
+      let far = subst (λ p. Meet p → ⊥) (pairs (k / 64) l) (none (k / 64) (0, 0) (omega arith) (omega (arith, size))) in
+      far (k % 64, omega arith, a, b)
 
 -- past the words there is no link
 pub past_none : (ws : List ℕ) (w n : ℕ) → length ws ≤ w → bit (get_or ws w 0) n ≡ true → ⊥
-past_none ws w n past b = zero_none (get_or ws w 0) n (subst T (sym (eq-eqb _ 0 (get_or_past ws w 0 past))) tt) (subst T (sym b) tt)
+past_none ws w n past b = both_ways (bit (get_or ws w 0) n) (ap (λ x. bit x n) (get_or_past ws w 0 past) ∙ bit_none n) b
 
 -- a set has links below 256 alone
 pub crossing_below : (set : LinkSet) (k : ℕ) → length set.words ≡ 4 → crossing set k ≡ true → k < 256

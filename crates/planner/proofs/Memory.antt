@@ -1,6 +1,6 @@
 -- The bookings in a plan's memory.
-use Rattle.std.proofs.Common.{◌≡◌, ℕ, Bool, true, false, cond, not, ◌&&◌, eqb, is_some, Some, None, Option, sym, refl, ap, ◌∙◌}
-use Rattle.std.proofs.lemmas.Bool.{true≢false, false≢true, and_right, eq-eqb, ne_eqb, cond-true, cond-false}
+use Rattle.std.proofs.Common.{◌≡◌, ℕ, ◌<◌, ◌≤◌, Bool, true, false, cond, not, ◌&&◌, eqb, is_some, Some, None, Option, sym, refl, ap, ◌∙◌, ⊎_elim}
+use Rattle.std.proofs.lemmas.Bool.{true≢false, false≢true, and_right, cases_lt, eq-eqb, ne_eqb, cond-true, cond-false}
 use Rattle.planner.specs.declared.bookings.Booking.{Booking}
 use Rattle.planner.specs.declared.bookings.Bookings.{Bookings}
 use Rattle.planner.specs.Bookings.{booking_at, booked_flow, kept_route, overlap_of, eqb_mutual}
@@ -24,34 +24,12 @@ routes_in bs n = kept_route (booking_at bs n)
 pub none_overlaps : (bs : Bookings) (n g : ℕ) → booking_at bs n ≡ None → overlap_of (routes_in bs) n g ≡ false
 none_overlaps bs n g e = and_right (not (eqb n g)) (share (routes_in bs n) (routes_in bs g)) (ap (λ b. share (kept_route b) (routes_in bs g)) e ∙ share_none (kept_route None) (routes_in bs g) (λ k a b. false≢true a))
 
--- the group of a booked flow: those that meet its links, without it
-pub group_of : (bs : Bookings) (n : ℕ) (b : Booking) (met group : ℕ → Bool) → booking_at bs n ≡ Some b →
-    ((g : ℕ) → met g ≡ share (crossing b.links) (routes_in bs g)) → ((g : ℕ) → group g ≡ cond (eqb g n) false (met g)) →
-    (g : ℕ) → group g ≡ overlap_of (routes_in bs) n g
-group_of bs n b met group is meets out g =
-    out g ∙ ap (λ x. cond (eqb g n) false x) (meets g ∙ ap (λ o. share (kept_route o) (routes_in bs g)) (sym is)) ∙ cond_not (eqb g n) (share (routes_in bs n) (routes_in bs g))
-    ∙ ap (λ x. not x && share (routes_in bs n) (routes_in bs g)) (eqb_mutual g n)
-  where
-    cond_not : (x y : Bool) → cond x false y ≡ (not x && y)
-    cond_not true y = refl
-    cond_not false y = refl
-
 pub some_flow : (o : Option Booking) → is_some (booked_flow o) ≡ is_some o
 some_flow None = refl
 some_flow (Some b) = refl
 
-map_cond : {A B : Type 0} (f : A → B) (b : Bool) (x y : A) → f (cond b x y) ≡ cond b (f x) (f y)
-map_cond f true x y = refl
-map_cond f false x y = refl
-
 -- the bookings with another entry at n
 module _ (bs new : Bookings) (n : ℕ) (o : Option Booking) (is : (k : ℕ) → booking_at new k ≡ cond (eqb k n) o (booking_at bs k)) where
-  pub set_flow : (k : ℕ) → booked_flow (booking_at new k) ≡ cond (eqb k n) (booked_flow o) (booked_flow (booking_at bs k))
-  set_flow k = ap booked_flow (is k) ∙ map_cond booked_flow (eqb k n) o (booking_at bs k)
-
-  pub set_route : (k link : ℕ) → kept_route (booking_at new k) link ≡ cond (eqb k n) (kept_route o link) (kept_route (booking_at bs k) link)
-  set_route k link = ap (λ b. kept_route b link) (is k) ∙ map_cond (λ b. kept_route b link) (eqb k n) o (booking_at bs k)
-
   -- another entry is still booked
   pub set_other_booked : (k : ℕ) → (k ≡ n → ⊥) → is_some (booking_at bs k) ≡ true → is_some (booking_at new k) ≡ true
   set_other_booked k ne booked = ap is_some (is k ∙ cond-false (eqb k n) o (booking_at bs k) (ne_eqb k n ne)) ∙ booked
@@ -62,3 +40,7 @@ module _ (bs new : Bookings) (n : ℕ) (o : Option Booking) (is : (k : ℕ) → 
 pub no_booking : (o : Option Booking) → is_some (booked_flow o) ≡ false → o ≡ None
 no_booking None e = refl
 no_booking (Some b) e = absurd (true≢false e)
+
+-- what agrees below 64, and from 64 on, agrees
+pub by_number : {A : Type 0} (f g : ℕ → A) → ((n : ℕ) → n < 64 → f n ≡ g n) → ((n : ℕ) → 64 ≤ n → f n ≡ g n) → (n : ℕ) → f n ≡ g n
+by_number f g low past n = ⊎_elim (low n) (past n) (cases_lt n 64)

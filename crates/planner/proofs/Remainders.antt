@@ -1,5 +1,5 @@
 -- What the choice of an order leaves.
-use Rattle.std.proofs.Common.{◌≡◌, ℕ, suc, ◌<◌, Bool, true, false, cond, not, ◌&&◌, ◌||◌, T, eqb, List, [], ◌∷◌, ◌++◌, sym, refl, ap, ◌∙◌, subst, ⊎_elim, arith}
+use Rattle.std.proofs.Common.{◌≡◌, ℕ, suc, ◌<◌, Bool, true, false, cond, not, ◌&&◌, ◌||◌, eqb, List, [], ◌∷◌, ◌++◌, sym, refl, ap, ◌∙◌, subst, ⊎_elim, arith}
 use mathlib.Core.Path.{fun_ext}
 use Rattle.std.proofs.lemmas.Bool.{both_ways, and_from, and_parts, cases_Bool}
 use Rattle.planner.specs.Orders.{Within, Below, without, beside, has, Order, MayComeLast, ChosenLast, Chosen, Stuck, StuckWith, Remains}
@@ -24,11 +24,11 @@ all_stays true = refl
 all_stays false = refl
 
 -- some member, where a test for none says no
-pub some_member : (n : ℕ) (q : ℕ → Bool) (empty : Bool) → (((k : ℕ) → k < n → q k ≡ false) → T empty) → empty ≡ false → (f : ℕ) × (q f ≡ true)
-some_member n q empty only no' =
+pub some_member : (n : ℕ) (q : ℕ → Bool) (empty : Bool) → Below n q → (((k : ℕ) → q k ≡ false) → empty ≡ true) → empty ≡ false → (f : ℕ) × (q f ≡ true)
+some_member n q empty below only no' =
     ⊎_elim
     (λ found. (found.0, found.1.holds))
-    (λ none. absurd (subst T no' (only (λ k l. ⊎_elim (λ e. absurd (none k l e)) (λ e. e) (cases_Bool (q k))))))
+    (λ none. absurd (both_ways empty no' (only (λ k. ⊎_elim (λ e. absurd (none k (below k e) e)) (λ e. e) (cases_Bool (q k))))))
     (highest (λ f. q f ≡ true) (λ f. decide_bool (q f)) n)
 
 -- q' is q without f
@@ -51,6 +51,9 @@ module _ (ov : ℕ → ℕ → Bool) where
   took_left : (p : ℕ → Bool) (xs : List ℕ) (q : ℕ → Bool) → Took ov p xs q → (f : ℕ) → q f ≡ (p f && not (has xs f))
   took_left p [] q took f = ap (λ r. r f) (sym took) ∙ all_stays (p f)
   took_left p (x ∷ xs) q took f = took_left (without p x) xs q took.1 f ∙ out_of_both (p f) (eqb f x) (has xs f)
+
+  pub took_within : (p : ℕ → Bool) (xs : List ℕ) (q : ℕ → Bool) → Took ov p xs q → Within q p
+  took_within p xs q took f in' = (and_parts (p f) (not (has xs f)) (sym (took_left p xs q took f) ∙ in')).0
 
   -- what may come last of a set may come last of each part that has it
   last_within : (k p : ℕ → Bool) (f : ℕ) → Within k p → k f ≡ true → MayComeLast ov p f → MayComeLast ov k f

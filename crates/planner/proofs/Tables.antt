@@ -1,16 +1,13 @@
 -- Lists of sets of flows, as tables hold them.
-use Rattle.std.proofs.Common.{◌≡◌, ℕ, zero, suc, ◌+◌, ◌^◌, ◌<◌, ◌≤◌, Bool, true, false, cond, ◌&&◌, T, eqb, ltb, List, length, get_or, set, replicate, sym, refl, ap, ◌∙◌, subst, ⊎_elim, arith}
+use Rattle.std.proofs.Common.{◌≡◌, ℕ, zero, suc, ◌+◌, ◌^◌, ◌<◌, ◌≤◌, Bool, true, false, cond, ◌&&◌, Decides, eqb, ltb, List, length, get_or, set, replicate, sym, refl, ap, ◌∙◌, ⊎_elim, arith}
 use Rattle.std.proofs.lemmas.List.{get_or_past, get_or-set_same, get_or-set_other}
 use Rattle.planner.specs.declared.flow_sets.FlowSet.{FlowSet}
-use Rattle.planner.specs.FlowSets.{bit, members}
-use Rattle.std.proofs.lemmas.Bool.{and_parts, and_right, eq-eqb, ne_eqb, lt-ltb, le-ltb, cond-true, cond-false, cases_eq, cases_lt}
+use Rattle.planner.specs.FlowSets.{members}
+use Rattle.std.proofs.lemmas.Bool.{false≢true, cases_Bool, and_parts, and_right, eq-eqb, ne_eqb, lt-ltb, le-ltb, cond-true, cond-false, cases_eq, cases_lt}
 use Rattle.planner.specs.Slots.{taken}
-use Rattle.planner.proofs.Bits.{unset, zero_none, bit_below}
+use Rattle.planner.proofs.Bits.{bit_above}
+pub use Rattle.planner.proofs.Bits.{bit_none}
 use Rattle.planner.proofs.Held.{taken_from, taken_gives}
-
--- 0 has no bit
-pub bit_none : (g : ℕ) → bit 0 g ≡ false
-bit_none g = unset (bit 0 g) (zero_none 0 g tt)
 
 -- the sets of a table that starts as one set over and over
 pub repeated : (x d : FlowSet) (n k g : ℕ) → members x g ≡ false → members d g ≡ false → members (get_or (replicate n x) k d) g ≡ false
@@ -29,31 +26,18 @@ cond_same false false x e = refl
 
 -- a set of 64 has no flow from 64 on
 pub past_flows : (set : FlowSet) (f : ℕ) → set.0 < 2 ^ 64 → 64 ≤ f → members set f ≡ false
-past_flows set f fits past = unset (members set f) (λ t. let b = bit_below 64 set.0 f fits t in omega arith)
-
-tells : (b : Bool) → T b → b ≡ true
-tells true h = refl
-tells false h = absurd h
-
-told : (b : Bool) → b ≡ true → T b
-told true e = tt
-told false e = let z : ⊥ = subst (λ x. T x) (sym e) tt in z
-
-same : (a b : Bool) → (T a → b ≡ true) → (b ≡ true → T a) → a ≡ b
-same true b to from = sym (to tt)
-same false true to from = absurd (from refl)
-same false false to from = refl
+past_flows set f fits past = bit_above set.0 f fits past
 
 -- a test that finds a flow of k in the slot, and only then, says whether the slot is taken
-pub taken_is : (t : ℕ → ℕ → Bool) (n : ℕ) (k : ℕ → Bool) (s : ℕ) (b : Bool) →
-    (T b → (f : ℕ) × (f < n) × T (t f s) × T (k f)) → ((f : ℕ) → T (t f s) → T (k f) → T b) → b ≡ taken t n k s
-taken_is t n k s b some all =
-    same b (taken t n k s)
-    (λ h. let found = some h in taken_from t n k s found.0 found.1 (tells (k found.0) found.3) (tells (t found.0 s) found.2))
+pub taken_is : (t : ℕ → ℕ → Bool) (n : ℕ) (k : ℕ → Bool) (s : ℕ) (b : Bool) → Decides b ((f : ℕ) × (f < n) × (t f s ≡ true) × (k f ≡ true)) → b ≡ taken t n k s
+taken_is t n k s true tells = let found = tells.0 refl in sym (taken_from t n k s found.0 found.1 found.3 found.2)
+taken_is t n k s false tells = ⊎_elim
     (λ e.
     let found = taken_gives t n k s e in
     let parts = and_parts (k found.0) (t found.0 s) found.2 in
-    all found.0 (told (t found.0 s) parts.1) (told (k found.0) parts.0))
+    absurd (false≢true (tells.1 (found.0, found.1, parts.1, parts.0))))
+    (λ none. sym none)
+    (cases_Bool (taken t n k s))
 
 -- another number than m is below m + 1 just if it is below m
 pub below_more : (k m : ℕ) → (k ≡ m → ⊥) → ltb k (m + 1) ≡ ltb k m

@@ -1,5 +1,6 @@
 -- Sums and counts over a set.
-use Rattle.std.proofs.Common.{◌≡◌, ℕ, zero, suc, ◌+◌, ◌<◌, ◌≤◌, min, Bool, true, false, cond, not, ◌&&◌, ◌||◌, eqb, ltb, sym, refl, ap, ◌∙◌, subst, ⊎_elim, add-one, arith}
+use Rattle.std.proofs.Common.{◌≡◌, ℕ, zero, suc, ◌+◌, ◌<◌, ◌≤◌, min, Bool, true, false, cond, not, ◌&&◌, ◌||◌, eqb, ltb, sym, refl, ap, ◌∙◌, subst, ⊎_elim, add-one, List, ◌∷◌, filter, length, arith}
+use Rattle.std.specs.List.{range_with_len}
 use Rattle.std.proofs.lemmas.Bool.{eqb-true, eq-eqb, ne_eqb, cases_Bool, cases_eq, cases_lt, cond-true, cond-false, cond_both, ltb-true, ltb-false}
 use Rattle.planner.specs.Orders.{without}
 use Rattle.planner.specs.Slots.{total, count}
@@ -13,6 +14,20 @@ total_start d p = refl
 pub total_more : (d : ℕ → ℕ) (p : ℕ → Bool) (n : ℕ) → total d p (n + 1) ≡ total d p n + cond (p n) (d n) 0
 unfolding total
 total_more d p n = ap (total d p) (add-one n) ∙ omega arith
+
+length_more : (b : Bool) (x : ℕ) (xs : List ℕ) → length (cond b (x ∷ xs) xs) ≡ length xs + cond b 1 0
+length_more true x xs = sym (add-one (length xs))
+length_more false x xs = omega arith
+
+-- a count, as the length of a list of those counted
+pub counted : (p : ℕ → Bool) (a n : ℕ) → length (filter p (range_with_len a n)) + count p a ≡ count p (a + n)
+counted p a zero = let same : count p (a + 0) ≡ count p a = ap (count p) (omega arith) in omega arith
+counted p a (suc n) =
+    let rest = counted p (a + 1) n in
+    let more = total_more (λ _. 1) p a in
+    let here = length_more (p a) a (filter p (range_with_len (a + 1) n)) in
+    let same : count p (a + 1 + n) ≡ count p (a + suc n) = ap (count p) (omega arith) in
+    omega arith
 
 or_apart : (a b : Bool) (x : ℕ) → (a ≡ true → b ≡ true → ⊥) → cond (a || b) x 0 ≡ cond a x 0 + cond b x 0
 or_apart true true x apart = absurd (apart refl refl)

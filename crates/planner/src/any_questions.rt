@@ -19,6 +19,7 @@ impl<F: Fabric> AnyPlan<F> {
     }
 }
 
+// The plans in the two states are of different types, so each of the four questions is passed on in two arms.
 impl<F: Fabric> Questions for AnyPlan<F> {
     ghost shown = { λ plan. any_shows F.Fabric.meaning plan };
 

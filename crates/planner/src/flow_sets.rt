@@ -1,5 +1,5 @@
 //! Sets of flows, numbered 0 to 63, one bit each. Contracts speak only of which flows are members.
-ghost use Rattle.std.specs.Prelude.{◌≡◌, ℕ, ◌<◌, true, false, not, ◌&&◌, T, if◌then◌else◌, MatchOption, nat_eq, slice_index_or};
+ghost use Rattle.std.specs.Prelude.{◌≡◌, ℕ, ◌<◌, true, false, not, ◌&&◌, Decides, if◌then◌else◌, MatchOption, nat_eq, slice_index_or};
 ghost use Rattle.planner.specs.FlowSets.{bit, members};
 
 use crate::flow_numbers::FlowNumber;
@@ -38,8 +38,8 @@ impl FlowSet {
     pub(crate) fn remove(&mut self, flow: FlowNumber)
         ensures { (k : ℕ) → members self.new k ≡ (if nat_eq k flow.number then false else members self.old k) }
     {
-        let s = self.0;
-        self.0 = s & !(1u64 << flow.number);
+        let flows = self.0;
+        self.0 = flows & !(1u64 << flow.number);
     }
 
     /// Takes the highest flow out of the set; None from the empty set, which stays empty.
@@ -65,8 +65,7 @@ impl FlowSet {
     }
 
     pub(crate) fn intersects(self, other: FlowSet) -> bool
-        ensures some { T result → ((k : ℕ) × (k < 64) × T (members self k) × T (members other k)) }
-        ensures all { (k : ℕ) → T (members self k) → T (members other k) → T result }
+        ensures { Decides result ((k : ℕ) × (k < 64) × (members self k ≡ true) × (members other k ≡ true)) }
     {
         self.0 & other.0 != 0
     }
@@ -86,15 +85,13 @@ impl FlowSet {
     }
 
     pub(crate) fn is_empty(self) -> bool
-        ensures none { T result → ((k : ℕ) → members self k ≡ false) }
-        ensures only { ((k : ℕ) → k < 64 → members self k ≡ false) → T result }
+        ensures { Decides result ((k : ℕ) → members self k ≡ false) }
     {
         self.0 == 0
     }
 
     pub(crate) fn subset(self, other: FlowSet) -> bool
-        ensures within { T result → ((k : ℕ) → T (members self k) → T (members other k)) }
-        ensures only { ((k : ℕ) → k < 64 → T (members self k) → T (members other k)) → T result }
+        ensures { Decides result ((k : ℕ) → members self k ≡ true → members other k ≡ true) }
     {
         self.0 & !other.0 == 0
     }

@@ -5,50 +5,36 @@ ghost use Rattle.planner.specs.Slots.{EarliestStands, SumsStand, StepsStand, Gre
 ghost use Rattle.planner.specs.Plans.{PlansStand};
 
 /// An order of the flows exists exactly when the choice from the end does not get stuck, and then that choice is one.
-pub fn orders_stand() -> u8
+pub fn orders_stand()
     ensures { OrdersStand }
-{
-    0
-}
+{}
 
 /// The earliest valid slots can be taken exactly where there are enough, and they are the only ones.
-pub fn earliest_stands() -> u8
+pub fn earliest_stands()
     ensures { EarliestStands }
-{
-    0
-}
+{}
 
 /// Flows that all overlap hold together as many slots as they demand, which is at most the period.
-pub fn sums_stand() -> u8
+pub fn sums_stand()
     ensures { SumsStand }
-{
-    0
-}
+{}
 
 /// A flow finds too few slots exactly when it and the earlier flows that overlap it demand more than the period; then nothing places them.
-pub fn steps_stand() -> u8
+pub fn steps_stand()
     ensures { StepsStand }
-{
-    0
-}
+{}
 
 /// Along an order the greedy makes a placing, or falls short and there is none.
-pub fn greedy_stands() -> u8
+pub fn greedy_stands()
     ensures { GreedyStands }
-{
-    0
-}
+{}
 
 /// The span after the greedy is the greatest demand of flows that all overlap, and no placing has a smaller one.
-pub fn spans_stand() -> u8
+pub fn spans_stand()
     ensures { SpansStand }
-{
-    0
-}
+{}
 
 /// Flows have no order, or are placed along the chosen one, or have no placing.
-pub fn plans_stand() -> u8
+pub fn plans_stand()
     ensures { PlansStand }
-{
-    0
-}
+{}

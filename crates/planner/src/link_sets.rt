@@ -1,5 +1,6 @@
 //! Sets of links, one bit each: the route of a flow, asked of its fabric once and kept.
 ghost use Rattle.std.specs.Prelude.{◌≡◌, ℕ, ◌<◌, Bool, true, false, if◌then◌else◌, Decides, nat_eq};
+ghost use Rattle.planner.specs.FlowSets.{bit};
 ghost use Rattle.planner.specs.LinkSets.{crossing, share};
 
 use fabric::Fabric;
@@ -24,8 +25,7 @@ impl LinkSet {
         ensures { (k : ℕ) → crossing self.new k ≡ (if nat_eq k link then true else crossing self.old k) }
     {
         let at = usize::from(link / 64);
-        let word = self.words[at];
-        self.words[at] = word | 1u64 << (link % 64);
+        self.words[at] |= 1u64 << (link % 64);
     }
 
     /// The links that the route of a pair crosses; none without a route.
@@ -46,11 +46,16 @@ impl LinkSet {
         ensures found { Decides result ((k : ℕ) × (crossing self.now k ≡ true) × (crossing other.now k ≡ true)) }
         ensures shared { result ≡ share (crossing self.now) (crossing other.now) }
     {
-        for at in 0..4usize {
-            if self.words[at] & other.words[at] != 0 {
-                return true;
-            }
-        }
-        false
+        self.words
+            .iter()
+            .zip(&other.words)
+            .any(|(mine, theirs)| meet(*mine, *theirs))
     }
+}
+
+/// Whether two words have a bit in common.
+fn meet(mine: u64, theirs: u64) -> bool
+    ensures { Decides result ((n : ℕ) × (n < 64) × (bit mine n ≡ true) × (bit theirs n ≡ true)) }
+{
+    mine & theirs != 0
 }

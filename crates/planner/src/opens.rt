@@ -91,7 +91,7 @@ impl<F: Fabric> Plan<F, Running> {
 }
 
 impl<F: Fabric, S> Plan<F, S> {
-    // The same plan in another state.
+    // The same plan in another state. Its type is another, so that it is taken apart and made anew: `..self` gives the same type.
     fn in_state<T>(self) -> Plan<F, T>
         ensures { (result.fabric ≡ self.fabric) × (result.period ≡ self.period) × (result.bookings ≡ self.bookings) × (result.table ≡ self.table) }
     {

@@ -107,9 +107,7 @@ mod tests {
     // The placing of the eleven flows in a period of eight slots, with a demand of its own for flow 2.
     fn placed(second: u16) -> Result<SlotTable, FlowSet> {
         let mut demands = [0u16; 64];
-        for flow in 0..12usize {
-            demands[flow] = DEMANDS[flow];
-        }
+        demands[..12].copy_from_slice(&DEMANDS);
         demands[2] = second;
         let load = FlowLoad {
             flows: FlowSet::empty(),
@@ -125,11 +123,9 @@ mod tests {
         let Ok(table) = placed(2) else {
             return Err(Fail::new("the flows have a placing"));
         };
-        for flow in 0..12u8 {
+        for (flow, held) in (0..12u8).zip(HELD) {
             for slot in 0..8u8 {
-                assert!(rt;
-                    table.holds_slot(flow, slot) == ((HELD[flow as usize] >> slot) & 1 == 1)
-                );
+                assert_eq!(rt; table.holds_slot(flow, slot), (held >> slot) & 1 == 1);
             }
         }
         Ok(())
@@ -140,8 +136,8 @@ mod tests {
         let Err(group) = placed(3) else {
             return Err(Fail::new("the first four demand nine slots of eight"));
         };
-        for flow in 0..64u8 {
-            assert!(rt; group.contains_flow(u16::from(flow)) == (1 <= flow && flow <= 4));
+        for flow in 0..64u16 {
+            assert_eq!(rt; group.contains_flow(flow), (1..=4).contains(&flow));
         }
         Ok(())
     }

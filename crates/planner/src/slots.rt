@@ -29,10 +29,9 @@ impl SlotTable {
     pub fn holds_slot(&self, flow: u8, slot: u8) -> bool
         ensures { result ≡ holds self.now flow slot }
     {
-        match self.slots.get(slot as usize) {
-            Some(flows) => flows.contains_flow(u16::from(flow)),
-            None => false,
-        }
+        self.slots
+            .get(usize::from(slot))
+            .is_some_and(|flows| flows.contains_flow(u16::from(flow)))
     }
 
     /// The flow gives up all its slots.
@@ -47,20 +46,16 @@ impl SlotTable {
         requires { slot < 255 }
         ensures { result ≡ free (holds self.now) 64 (members beside) slot }
     {
-        !self.slots[slot as usize].intersects(beside)
+        !self.slots[usize::from(slot)].intersects(beside)
     }
 
     /// How many slots of the period no flow of `beside` holds.
-    fn valid_count(&self, beside: FlowSet, period: u8) -> u16
+    fn valid_count(&self, beside: FlowSet, period: u8) -> usize
         ensures { result ≡ count (free (holds self.now) 64 (members beside)) period }
     {
-        let mut valid = 0;
-        for slot in 0..period {
-            if self.is_valid(slot, beside) {
-                valid += 1;
-            }
-        }
-        valid
+        (0..period)
+            .filter(|slot| self.is_valid(*slot, beside))
+            .count()
     }
 
     /// Gives the flow its earliest valid slots, as many as it demands. Refused where there are too few, and then nothing changes.
@@ -70,7 +65,7 @@ impl SlotTable {
             (λ _. Given (holds self.old) (holds self.new) 64 request.flow.number (members request.beside) request.demand request.period)
             (λ _. (self.new ≡ self.old) × (count (free (holds self.old) 64 (members request.beside)) request.period < request.demand)) }
     {
-        if self.valid_count(request.beside, request.period) < request.demand {
+        if self.valid_count(request.beside, request.period) < usize::from(request.demand) {
             return Err(TooFew);
         }
         self.take_earliest(request);
@@ -100,6 +95,6 @@ impl SlotTable {
         requires { slot < 255 }
         ensures { (f s : ℕ) → holds self.new f s ≡ (if nat_eq f flow.number && s == slot then true else holds self.old f s) }
     {
-        self.slots[slot as usize].insert(flow);
+        self.slots[usize::from(slot)].insert(flow);
     }
 }

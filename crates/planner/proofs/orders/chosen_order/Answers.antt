@@ -4,7 +4,7 @@ use Rattle.planner.specs.FlowSets.{members}
 use Rattle.planner.specs.Groups.{overlapping}
 use Rattle.planner.proofs.Choices.{Took}
 use Rattle.planner.proofs.Groups.{members_below}
-use Rattle.planner.proofs.Remainders.{some_member, one_fewer, took_more, took_chosen, took_remains}
+use Rattle.planner.proofs.Remainders.{some_member, one_fewer, took_more, took_within, took_chosen, took_remains}
 use Rattle.planner.proofs.Totals.{count_le, total_without}
 use Rattle.planner.proofs.orders.chosen_order.Goals as goal
 
@@ -43,11 +43,13 @@ pub returns-then-is_empty : goal.returns-then-is_empty
 returns-then-is_empty c =
     let fits : c.args.flows.0 < 2 ^ 64 = search rules in
     took_chosen (overlapping c.args.overlaps.now.groups) 64 (members c.args.flows) (listed c.loop-flow.order) (members c.loop-flow.rest)
-    (members_below c.args.flows fits) c.loop-flow.invariant.0 (c.if-is_empty.ensures.none tt)
+    (members_below c.args.flows fits) c.loop-flow.invariant.0 (c.if-is_empty.ensures.0 refl)
 
 pub returns-else-is_empty : goal.returns-else-is_empty
 returns-else-is_empty c =
     let fits : c.args.flows.0 < 2 ^ 64 = search rules in
     let q = members c.loop-flow.rest in
+    let below = members_below c.args.flows fits in
+    let left = took_within (overlapping c.args.overlaps.now.groups) (members c.args.flows) (listed c.loop-flow.order) q c.loop-flow.invariant.0 in
     took_remains (overlapping c.args.overlaps.now.groups) 64 (members c.args.flows) (listed c.loop-flow.order) q
-    (members_below c.args.flows fits) c.loop-flow.invariant.0 (some_member 64 q c.is_empty.result c.is_empty.ensures.only c.if-is_empty.false) c.in_default.ensures
+    (members_below c.args.flows fits) c.loop-flow.invariant.0 (some_member 64 q c.is_empty.result (λ f in'. below f (left f in')) c.is_empty.ensures.1 c.if-is_empty.false) c.in_default.ensures

@@ -7,7 +7,7 @@ use Rattle.planner.specs.Bookings.{none_past, overlap_of, overlap_mutual}
 use Rattle.planner.specs.FlowSets.{members}
 use Rattle.planner.specs.Groups.{overlapping}
 use Rattle.planner.specs.LinkSets.{share}
-use Rattle.planner.proofs.Memory.{routes_in, none_overlaps}
+use Rattle.planner.proofs.Memory.{by_number, routes_in, none_overlaps}
 use Rattle.planner.proofs.Tables.{bit_none}
 use Rattle.planner.proofs.bookings.Bookings.overlaps.Goals as goal
 
@@ -15,10 +15,9 @@ use Rattle.planner.proofs.bookings.Bookings.overlaps.Goals as goal
 whole : (bs : Bookings) (groups : List FlowSet) → length groups ≡ 64 →
     ((f g : ℕ) → f < 64 → overlapping groups f g ≡ overlap_of (routes_in bs) f g) → (f g : ℕ) → overlapping groups f g ≡ overlap_of (routes_in bs) f g
 whole bs groups long each f g =
-    ⊎_elim
-    (λ (low : f < 64). each f g low)
-    (λ (past : 64 ≤ f). ap (λ (x : FlowSet). members x g) (get_or_past groups f (record { 0 = 0 }) (omega arith)) ∙ bit_none g ∙ sym (none_overlaps bs f g (none_past bs f past)))
-    (cases_lt f 64)
+    by_number (λ k. overlapping groups k g) (λ k. overlap_of (routes_in bs) k g) (λ k low. each k g low)
+    (λ k past. ap (λ (x : FlowSet). members x g) (get_or_past groups k (record { 0 = 0 }) (omega arith)) ∙ bit_none g ∙ sym (none_overlaps bs k g (none_past bs k past)))
+    f
 
 pub returns : goal.returns
 returns c = whole c.args.self.now c.loop-n.group-items c.loop-n.invariant.long (λ f g low. c.loop-n.invariant.each f g (omega arith))

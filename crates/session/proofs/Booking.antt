@@ -1,51 +1,60 @@
--- A call that books a flow under a label, put together from its parts.
-use Rattle.std.proofs.Common.{◌≡◌, ℕ, Bool, true, false, ◌⊎◌, List, length, get_or, set, is_err, Some, None, Ok, Err, Option, Result, sym, refl, ap, ◌∙◌, inl, inr, ⊎_elim, arith, length-set, set-set}
-use lib.Seq.{set-get_or}
-use Rattle.labels.specs.Directories.{Unbinds, bind_checks}
-use Rattle.labels.specs.Faults.{AllHold}
-use Rattle.labels.specs.declared.faults.LabelFault.{LabelFault}
+-- Commands with a label, put together from the label's part and the plan's.
+use Rattle.std.proofs.Common.{◌≡◌, ℕ, true, ◌⊎◌, List, set, None, Ok, Err, Option, Result, sym, refl, ap, ◌∙◌, subst, inl, inr, ⊎_elim}
+use Rattle.labels.specs.Directories.{Lowest}
 use Rattle.labels.specs.declared.names.Name.{Name}
-use Rattle.planner.specs.Shown.{Shown}
-use Rattle.planner.specs.Steps.{Step}
 use Rattle.planner.specs.declared.calls.Call.{Call}
-use Rattle.planner.specs.declared.calls.Call.TheVariants.{Enrol, Admit, Withdraw, Replan, Start, Rest, Fit}
+use Rattle.planner.specs.declared.calls.Call.TheVariants.{Enrol, Admit, Withdraw}
+use Rattle.planner.specs.Steps.{Step, allowed}
 use Rattle.planner.specs.declared.plan_faults.PlanFault.{PlanFault}
 use Rattle.script.specs.declared.commands.Wanted.{Wanted}
-use Rattle.session.specs.Parts.{TakesLabel, plan_answer, state}
-use Rattle.session.specs.Sessions.{BooksLabelled, same_name}
+use Rattle.session.specs.Parts.{Labelled, Relabels}
+use Rattle.session.specs.Sessions.{Answer, BooksLabelled, Makes, State, UnbooksLabelled, flow_of, same_name}
+use Rattle.session.specs.declared.faults.ScriptFault.{ScriptFault}
+use Rattle.session.specs.declared.faults.ScriptFault.TheVariants.{NoForm, WrongState, Fabric, Label, Plan}
+use Rattle.session.proofs.Naming.{Leaves, refused_same}
 
--- a refused call leaves the plan as it was
-pub refused_same : (s t : Shown) (c : Call) (e : PlanFault) → Step s c (Err e) t → t ≡ s
-refused_same s t (Enrol n f) e h = h.1
-refused_same s t (Admit n f) e h = h.1
-refused_same s t (Withdraw n) e h = h.1
-refused_same s t Replan e h = h.1
-refused_same s t Start e h = absurd h
-refused_same s t Rest e h = absurd h
-refused_same s t (Fit d) e h = absurd h
+-- a plan's answer, as a script's
+abbrev pub plan_answer : Result (Unit {0}) PlanFault → Answer
+plan_answer (Ok done) = Ok tt
+plan_answer (Err fault) = Err (Plan fault)
 
--- an entry that was empty, filled and emptied again
-pub as_before : (labels : List (Option Name)) (n : ℕ) (name : Name) → get_or labels n None ≡ None → set (set labels n (Some name)) n None ≡ labels
-as_before labels n name e =
-    set-set labels n (Some name) None ∙ ap (λ v. set labels n v) (sym e) ∙ set-get_or labels n None
+pub made : (s : State) (c : Call) (relabelled : List (Option Name)) (a : Result (Unit {0}) PlanFault) (t : State)
+    → allowed s.shown.running c ≡ true → Step s.shown c a t.shown → Leaves s.labels relabelled t.labels a → Makes s c relabelled (plan_answer a) t
+made s c relabelled (Ok x) t al step (inl p) = (al, step, p.1)
+made s c relabelled (Ok x) t al step (inr p) = let no = p.0 in cc
+made s c relabelled (Err e) t al step (inl p) = let no = p.0 in cc
+made s c relabelled (Err e) t al step (inr p) =
+    (al, step, ap (λ u. record { shown = u; labels = t.labels }) (refused_same s.shown t.shown c e step) ∙ ap (λ l. record { shown = s.shown; labels = l }) p.1)
 
--- the entry is emptied: the memory and the number are as they must be
-pub emptied : (labels mid after : List (Option Name)) (n : ℕ) (name : Name) (r : Result (Unit {0}) LabelFault)
-    → AllHold (bind_checks same_name labels n name) → mid ≡ set labels n (Some name) → Unbinds mid n after r → after ≡ set mid n None
-emptied labels mid after n name (Ok x) all e h = h.1
-emptied labels mid after n name (Err f) all e h =
-    let whole : length mid ≡ 64 = ap length e ∙ length-set labels n (Some name) ∙ all.0 in
-    absurd (⊎_elim (λ a. a.0 whole) (λ b. ⊎_elim (λ a. a.0 all.1.0) (λ z. z.1) b.1) h.0)
+pub booked : (s : State) (c : Call) (w : Wanted) (labels : List (Option Name)) (a : Answer) (t : State) → Labelled s c w (Ok labels) → Makes s c labels a t → BooksLabelled s c w a t
+booked s c w labels (Ok x) t h m = (h.0, h.1, m.1, m.2 ∙ h.2)
+booked s c w labels (Err NoForm) t h m = m
+booked s c w labels (Err WrongState) t h m = m
+booked s c w labels (Err (Fabric e)) t h m = m
+booked s c w labels (Err (Label e)) t h m = absurd m
+booked s c w labels (Err (Plan e)) t h m = (h.0, h.1, m.1, m.2)
 
-pub booked : (s t : Shown) (labels mid after : List (Option Name)) (c : Call) (w : Wanted) (a : Result (Unit {0}) PlanFault)
-    → TakesLabel s.running labels c w mid (Ok tt)
-    → Step s c a t
-    → ((is_err a ≡ true) × (after ≡ set mid w.number None)) ⊎ ((is_err a ≡ false) × (after ≡ mid))
-    → BooksLabelled (state s labels) c w (plan_answer a) (state t after)
-booked s t labels mid after c w (Ok x) h step (inl p) = let e = p.0 in let z : ◌≡◌ {A = ℕ} 0 1 = cc in absurd (omega arith)
-booked s t labels mid after c w (Ok x) h step (inr p) = (h.0, h.1, step, p.1 ∙ h.2)
-booked s t labels mid after c w (Err e) h step (inr p) = let q = p.0 in let z : ◌≡◌ {A = ℕ} 0 1 = cc in absurd (omega arith)
-booked s t labels mid after c w (Err e) h step (inl p) =
-    let again : after ≡ labels = p.1 ∙ ap (λ l. set l w.number None) h.2 ∙ as_before labels w.number w.name h.1.1.1.1.0 in
-    let alike : t ≡ s = refused_same s t c e step in
-    (h.0, h.1, step, ap (λ p. state p after) alike ∙ ap (λ l. state s l) again)
+pub not_booked : (s : State) (c : Call) (w : Wanted) (f : ScriptFault) → Labelled s c w (Err f) → BooksLabelled s c w (Err f) s
+not_booked s c w NoForm h = h
+not_booked s c w WrongState h = (h, refl)
+not_booked s c w (Fabric e) h = h
+not_booked s c w (Label e) h = (h.0, h.1, refl)
+not_booked s c w (Plan e) h = absurd h
+
+pub unbooked : (s : State) (name : Name) (n : ℕ) (labels : List (Option Name)) (a : Answer) (t : State) → Lowest same_name s.labels name n → labels ≡ set s.labels n None
+    → Makes s (Withdraw n) labels a t → UnbooksLabelled s name a t
+unbooked s name n labels (Ok x) t l e m = (n, l, m.1, m.2 ∙ e)
+unbooked s name n labels (Err NoForm) t l e m = m
+unbooked s name n labels (Err WrongState) t l e m = let same = m.0 in cc
+unbooked s name n labels (Err (Fabric e')) t l e m = m
+unbooked s name n labels (Err (Label e')) t l e m = absurd m
+unbooked s name n labels (Err (Plan e')) t l e m = (n, l, m.1, m.2)
+
+-- the labels with the one that is wanted are those that its call leaves
+pub relabels : (s : State) (c : Call) (w : Wanted) (labels : List (Option Name)) → (c ≡ Enrol w.number (flow_of w)) ⊎ (c ≡ Admit w.number (flow_of w))
+    → Labelled s c w (Ok labels) → Relabels c s.labels labels
+relabels s c w labels books h =
+    ⊎_elim
+    (λ e. subst (λ d. Relabels d s.labels labels) (sym e) (w.name, h.1.1.0, h.2))
+    (λ e. subst (λ d. Relabels d s.labels labels) (sym e) (w.name, h.1.1.0, h.2))
+    books

@@ -1,5 +1,5 @@
+mod FromFn
 mod Booking
-mod Texts
 mod Naming
 mod Handing
 mod Turns

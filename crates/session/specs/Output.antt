@@ -1,5 +1,5 @@
 -- What is printed for a script, line by line. Each printed line ends with byte 10, which the printer adds.
-use Rattle.std.specs.Prelude.{◌≡◌, ℕ, ◌+◌, ◌<◌, ◌≤◌, ◌⊎◌, List, [], ◌∷◌, ◌++◌, length, replicate, None, Ok, Err, codes, Option, Result}
+use Rattle.std.specs.Prelude.{◌≡◌, ℕ, ◌+◌, ◌<◌, ◌≤◌, ◌⊎◌, List, [], ◌∷◌, ◌++◌, length, replicate, None, Ok, Err, Option, Result}
 use Rattle.fabric.specs.Faults as of_fabrics
 use Rattle.fabric.specs.Lines.{LineSize, line_meaning}
 use Rattle.fabric.specs.Meaning.{Meaning}

@@ -10,6 +10,8 @@ use Rattle.session.specs.declared.faults.Layer.{Layer}
 use Rattle.session.specs.declared.faults.Layer.TheVariants.{Fabric as OfFabric, Label as OfLabel, Script as OfScript, Plan as OfPlan}
 use Rattle.session.specs.declared.faults.ScriptFault.{ScriptFault}
 use Rattle.session.specs.declared.faults.ScriptFault.TheVariants.{NoForm, WrongState, Fabric, Label, Plan}
+use Rattle.session.specs.declared.printers.RunFault.{RunFault}
+use Rattle.session.specs.declared.printers.RunFault.TheVariants.{NoMemory, Unprinted}
 
 -- each refusal by its number and values; one of a lower layer has those that it has there
 abbrev pub numbered : ScriptFault → ℕ × List ℕ
@@ -50,3 +52,8 @@ layer_word OfFabric = codes "fabric"
 layer_word OfLabel = codes "label"
 layer_word OfScript = codes "script"
 layer_word OfPlan = codes "plan"
+
+-- why a run broke off
+abbrev pub fault_text : RunFault → List ℕ
+fault_text NoMemory = codes "there is no memory for a line"
+fault_text Unprinted = codes "a line cannot be printed"

@@ -5,8 +5,11 @@ use Rattle.labels.specs.Directories.{Bound, Lowest, Whole, bind_checks, entry_of
 use Rattle.labels.specs.Faults.{AllHold, FirstFails}
 use Rattle.labels.specs.Names.{spelled}
 use Rattle.labels.specs.declared.names.Name.{Name}
+use Rattle.planner.specs.Bookings.{booked_flow, booking_at}
 use Rattle.planner.specs.Shown.{Shown}
 use Rattle.planner.specs.Steps.{Step, allowed}
+use Rattle.planner.specs.declared.any_plans.AnyPlan.{AnyPlan}
+use Rattle.planner.specs.declared.any_plans.AnyPlan.TheVariants.{Resting, Running}
 use Rattle.planner.specs.declared.calls.Call as calls
 use Rattle.planner.specs.declared.calls.Call.TheVariants as call
 use Rattle.planner.specs.declared.flows.Flow.{Flow}
@@ -62,15 +65,19 @@ UnbooksLabelled s name (Err NoForm) t = ⊥
 UnbooksLabelled s name (Err WrongState) t = ⊥
 UnbooksLabelled s name (Err (Fabric e)) t = ⊥
 
--- A call without a label. The checks go: the state (19), then the plan's. The labels stay.
+-- A call that leaves these labels. The checks go: the state (19), then the plan's. Refused, nothing changes.
+abbrev pub Makes : State → calls.Call → List (Option Name) → Answer → State → Type 0
+Makes s c labels (Ok done) t =
+    (allowed s.shown.running c ≡ true) × Step s.shown c (Ok tt) t.shown × (t.labels ≡ labels)
+Makes s c labels (Err WrongState) t = (allowed s.shown.running c ≡ false) × (t ≡ s)
+Makes s c labels (Err (Plan e)) t = (allowed s.shown.running c ≡ true) × Step s.shown c (Err e) t.shown × (t ≡ s)
+Makes s c labels (Err NoForm) t = ⊥
+Makes s c labels (Err (Fabric e)) t = ⊥
+Makes s c labels (Err (Label e)) t = ⊥
+
+-- a call without a label: the labels stay
 abbrev pub Calls : State → calls.Call → Answer → State → Type 0
-Calls s c (Ok done) t =
-    (allowed s.shown.running c ≡ true) × Step s.shown c (Ok tt) t.shown × (t.labels ≡ s.labels)
-Calls s c (Err WrongState) t = (allowed s.shown.running c ≡ false) × (t ≡ s)
-Calls s c (Err (Plan e)) t = (allowed s.shown.running c ≡ true) × Step s.shown c (Err e) t.shown × (t ≡ s)
-Calls s c (Err NoForm) t = ⊥
-Calls s c (Err (Fabric e)) t = ⊥
-Calls s c (Err (Label e)) t = ⊥
+Calls s c a t = Makes s c s.labels a t
 
 -- what a command does, and its answer; `show` does nothing and has none
 abbrev pub Obeyed : State → Command → Answer → State → Type 0
@@ -82,6 +89,11 @@ Obeyed s Start a t = Calls s call.Start a t
 Obeyed s Rest a t = Calls s call.Rest a t
 Obeyed s Show a t = ⊥
 
+-- the flow that is booked under a number of a plan, in either state
+abbrev pub booked_in : {F : Type 0} → AnyPlan F → ℕ → Option Flow
+booked_in (Resting plan) n = booked_flow (booking_at plan.bookings n)
+booked_in (Running plan) n = booked_flow (booking_at plan.bookings n)
+
 -- every booked flow has a label, and no other
-abbrev pub Named : State → Type 0
-Named s = (n : ℕ) → is_some (entry_of s.labels n) ≡ is_some (s.shown.booked n)
+abbrev pub Named : (ℕ → Option Flow) → List (Option Name) → Type 0
+Named booked labels = (n : ℕ) → is_some (entry_of labels n) ≡ is_some (booked n)

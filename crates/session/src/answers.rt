@@ -1,38 +1,37 @@
 //! The text of an answer.
-ghost use Rattle.std.specs.Prelude.{◌≡◌, IfOk, string_bytes};
-ghost use Rattle.session.specs.Answers.{answer_line, refusal_text};
+ghost use Rattle.std.specs.Prelude.{Some};
+ghost use Rattle.session.specs.Answers.{answer_line};
 
-use crate::faults::{Layer, ScriptFault};
+use crate::faults::ScriptFault;
 use crate::rows::group_row;
 use script::groups::Group;
-use std::alloc::{AllocError, Global};
+use std::fmt;
 
-/// The answer to the line of this number: `ok`, or `no` with the refusal.
-pub(crate) fn answer_line(
-    heap: Global,
-    answer: Result<(), ScriptFault>,
-    line: usize,
-) -> Result<String, AllocError>
-    ensures { IfOk result (λ text. string_bytes text ≡ answer_line answer line) }
-{
-    match answer {
-        Ok(()) => String::from_str(heap, "ok"),
-        Err(fault) => refusal_line(heap, fault, line),
-    }
+/// The answer to the line of this number.
+#[derive(Clone, Copy, PartialEq, Eq, Debug)]
+pub(crate) struct AnswerLine {
+    pub(crate) given: Result<(), ScriptFault>,
+    pub(crate) number: usize,
 }
 
-// `no`, the number, the line, the layer, and the group's flows if there is a group.
-fn refusal_line(heap: Global, fault: ScriptFault, line: usize) -> Result<String, AllocError>
-    ensures { IfOk result (λ text. string_bytes text ≡ refusal_text fault line) }
-{
-    let number = fault.number();
-    let layer = Layer::of_number(number).word();
-    match fault.group() {
-        Some(group) => {
-            let row = group_row(group);
-            let flows = Group(&row);
-            format!(in heap; "no {number} {line} {layer} {flows}")
+/// `ok`, or `no` with the refusal's number, the line's, the layer, and the group's flows if there is a group.
+impl fmt::Display for AnswerLine {
+    ghost output = { λ line. Some (answer_line line.given line.number) };
+
+    fn fmt<W: fmt::Write>(&self, f: &mut fmt::Formatter<W>) -> fmt::Result {
+        let Err(fault) = self.given else {
+            return write!(f, "ok");
+        };
+        let refusal = fault.number();
+        let line = self.number;
+        let layer = fault.layer();
+        match fault.group() {
+            Some(group) => {
+                let row = group_row(group);
+                let flows = Group(&row);
+                write!(f, "no {refusal} {line} {layer} {flows}")
+            }
+            None => write!(f, "no {refusal} {line} {layer}"),
         }
-        None => format!(in heap; "no {number} {line} {layer}"),
     }
 }

@@ -1,26 +1,19 @@
-//! Calls on a plan, where the state allows them.
-ghost use Rattle.std.specs.Prelude.{◌≡◌, true, List, Option, ◌≢◌};
-ghost use Rattle.fabric.specs.declared.modules.Module.{Module};
-ghost use Rattle.labels.specs.declared.names.Name.{Name};
-ghost use Rattle.planner.specs.Outcomes.{any_shows};
-ghost use Rattle.planner.specs.Steps.{Step, allowed};
-ghost use Rattle.planner.specs.declared.calls.Call.TheVariants.{Fit};
-ghost use Rattle.session.specs.Parts.{plan_answer, state};
-ghost use Rattle.session.specs.Sessions.{Calls};
+//! The calls that a session makes on its plan.
+ghost use Rattle.std.specs.Prelude.{◌≡◌};
+ghost use Rattle.planner.specs.Steps.{allowed};
+ghost use Rattle.session.specs.Output.{Opens, unlabelled};
+ghost use Rattle.session.specs.Parts.{Relabels, state_of};
+ghost use Rattle.session.specs.Sessions.{Makes};
 
 use crate::faults::ScriptFault;
+use crate::sessions::Session;
 use fabric::Fabric;
+use labels::names::Name;
 use planner::any_plans::{AnyPlan, Outcome};
 use planner::calls::Call;
 use planner::performing::perform;
-use planner::plan_faults::PlanFault;
-
-/// A plan after a command, and the command's answer.
-#[derive(Drop)]
-pub(crate) struct After<F: Fabric> {
-    pub(crate) plan: AnyPlan<F>,
-    pub(crate) answer: Result<(), ScriptFault>,
-}
+use planner::periods::Period;
+use planner::plans::Plan;
 
 /// Whether the state allows the call.
 pub(crate) fn allows(running: bool, call: Call) -> bool
@@ -33,43 +26,37 @@ pub(crate) fn allows(running: bool, call: Call) -> bool
     }
 }
 
-/// Makes a call that the state allows, and that is no fit.
-pub(crate) fn make<F: Fabric + Drop>(
-    plan: AnyPlan<F>,
-    call: Call,
-) -> (AnyPlan<F>, Result<(), PlanFault>)
-    requires { (allowed (any_shows F.Fabric.meaning plan).running call ≡ true) × (((d : Module) → call ≢ Fit d)) }
-    ensures { Step (any_shows F.Fabric.meaning plan) call result.1 (any_shows F.Fabric.meaning result.0) }
-{
-    match perform(plan, call) {
-        Outcome::Answered(after, answer) => (after, answer),
-        Outcome::NotAllowed(_) => unreachable(),
-        Outcome::Fitted(_) => unreachable(),
+impl<F: Fabric + Drop> Session<F> {
+    /// An empty plan over the fabric, with a period of that length.
+    pub(crate) fn open(fabric: F, length: Period) -> Self
+        ensures opens { Opens (F.Fabric.meaning fabric) length.slots (state_of result).shown }
+        ensures none { result.labels ≡ unlabelled }
+    {
+        Session {
+            plan: AnyPlan::Resting(Plan::open(fabric, length)),
+            labels: [None; 64],
+        }
     }
-}
 
-/// A plan's answer, as a script's.
-pub(crate) fn told(answer: Result<(), PlanFault>) -> Result<(), ScriptFault>
-    ensures { result ≡ plan_answer answer }
-{
-    answer?;
-    Ok(())
-}
-
-/// Makes a call without a label, if the state allows it.
-pub(crate) fn call_alone<F: Fabric + Drop>(plan: AnyPlan<F>, call: Call) -> After<F>
-    requires { (d : Module) → call ≢ Fit d }
-    ensures { (labels : List (Option Name)) → Calls (state (any_shows F.Fabric.meaning plan) labels) call result.answer (state (any_shows F.Fabric.meaning result.plan) labels) }
-{
-    if !allows(plan.is_running(), call) {
-        return After {
-            plan,
-            answer: Err(ScriptFault::WrongState),
-        };
-    }
-    let (plan, answer) = make(plan, call);
-    After {
-        plan,
-        answer: told(answer),
+    /// Makes a call. Accepted, it leaves these labels; refused, nothing changes.
+    pub(crate) fn make(
+        self,
+        call: Call,
+        relabelled: [Option<Name>; 64],
+    ) -> (Self, Result<(), ScriptFault>)
+        requires { Relabels call self.labels relabelled }
+        ensures { Makes (state_of self) call relabelled result.1 (state_of result.0) }
+    {
+        let Session { plan, mut labels } = self;
+        match perform(plan, call) {
+            Outcome::Answered(plan, answer) => {
+                if answer.is_ok() {
+                    labels = relabelled;
+                }
+                (Session { plan, labels }, answer.map_err(ScriptFault::Plan))
+            }
+            Outcome::NotAllowed(plan) => (Session { plan, labels }, Err(ScriptFault::WrongState)),
+            Outcome::Fitted(_) => unreachable(),
+        }
     }
 }

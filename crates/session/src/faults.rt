@@ -1,5 +1,5 @@
 //! Why a line of a script is refused, and by which layer.
-ghost use Rattle.std.specs.Prelude.{◌≡◌};
+ghost use Rattle.std.specs.Prelude.{◌≡◌, Some};
 ghost use Rattle.session.specs.Refusals.{numbered, group_of, layer_of, layer_word};
 ghost use Rattle.session.specs.declared.faults.ScriptFault.TheVariants.{Fabric, Label, Plan};
 
@@ -7,9 +7,10 @@ use fabric::faults::FabricFault;
 use labels::faults::LabelFault;
 use planner::flow_sets::FlowSet;
 use planner::plan_faults::PlanFault;
+use std::fmt;
 
 /// The fault of a line; that of a lower layer stands whole inside.
-#[derive(Clone, Copy)]
+#[derive(Clone, Copy, PartialEq, Eq, Debug)]
 pub(crate) enum ScriptFault {
     /// 6: the line has no form of a script.
     NoForm,
@@ -58,33 +59,11 @@ impl ScriptFault {
         }
     }
 
-    /// The flows that the refusal names, where it names a group.
-    pub(crate) fn group(self) -> Option<FlowSet>
-        ensures { result ≡ group_of self }
+    /// The layer that is told. It goes by the refusal's number: two layers may refuse with the same.
+    pub(crate) fn layer(self) -> Layer
+        ensures { result ≡ layer_of (numbered self).0 }
     {
-        match self {
-            ScriptFault::Plan(PlanFault::NoOrder(group)) => Some(group),
-            ScriptFault::Plan(PlanFault::NoPlacing(group)) => Some(group),
-            _ => None,
-        }
-    }
-}
-
-/// The layers that a refusal is told of.
-#[derive(Clone, Copy)]
-pub(crate) enum Layer {
-    Fabric,
-    Label,
-    Script,
-    Plan,
-}
-
-impl Layer {
-    /// The layer goes by the refusal's number: two layers may refuse with the same.
-    pub(crate) fn of_number(number: u8) -> Layer
-        ensures { result ≡ layer_of number }
-    {
-        match number {
+        match self.number() {
             2 | 3 => Layer::Fabric,
             7 | 20 | 21 => Layer::Label,
             6 | 19 => Layer::Script,
@@ -92,14 +71,37 @@ impl Layer {
         }
     }
 
-    pub(crate) fn word(self) -> &'static str
-        ensures { result.now ≡ layer_word self }
+    /// The flows that the refusal names, where it names a group.
+    pub(crate) fn group(self) -> Option<FlowSet>
+        ensures { result ≡ group_of self }
     {
         match self {
-            Layer::Fabric => "fabric",
-            Layer::Label => "label",
-            Layer::Script => "script",
-            Layer::Plan => "plan",
+            ScriptFault::Plan(PlanFault::NoOrder(group) | PlanFault::NoPlacing(group)) => {
+                Some(group)
+            }
+            _ => None,
+        }
+    }
+}
+
+/// The layers that a refusal is told of.
+#[derive(Clone, Copy, PartialEq, Eq, Debug)]
+pub(crate) enum Layer {
+    Fabric,
+    Label,
+    Script,
+    Plan,
+}
+
+impl fmt::Display for Layer {
+    ghost output = { λ layer. Some (layer_word layer) };
+
+    fn fmt<W: fmt::Write>(&self, f: &mut fmt::Formatter<W>) -> fmt::Result {
+        match self {
+            Layer::Fabric => write!(f, "fabric"),
+            Layer::Label => write!(f, "label"),
+            Layer::Script => write!(f, "script"),
+            Layer::Plan => write!(f, "plan"),
         }
     }
 }

@@ -9,5 +9,7 @@ mod obeying;
 pub mod printers;
 mod rows;
 pub mod running;
+mod sessions;
 mod showing;
 mod starting;
+mod tellers;

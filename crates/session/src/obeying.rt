@@ -1,20 +1,17 @@
 //! How a command is obeyed.
-ghost use Rattle.std.specs.Prelude.{◌≡◌, true, MatchResult, ◌≢◌};
-ghost use Rattle.fabric.specs.declared.modules.Module.{Module};
-ghost use Rattle.labels.specs.Directories.{FindsBound};
-ghost use Rattle.planner.specs.Outcomes.{any_shows};
-ghost use Rattle.planner.specs.declared.calls.Call.TheVariants.{Fit};
+ghost use Rattle.std.specs.Prelude.{◌≡◌, ◌≢◌, ◌⊎◌};
+ghost use Rattle.planner.specs.declared.calls.Call.TheVariants.{Enrol, Admit};
 ghost use Rattle.script.specs.declared.commands.Command.TheVariants.{Show};
-ghost use Rattle.session.specs.Parts.{TakesLabel, state};
-ghost use Rattle.session.specs.Sessions.{BooksLabelled, Obeyed, UnbooksLabelled, flow_of, same_name};
+ghost use Rattle.session.specs.Parts.{Labelled, state_of};
+ghost use Rattle.session.specs.Sessions.{BooksLabelled, Obeyed, UnbooksLabelled, flow_of};
 
-use crate::calling::{After, allows, call_alone, make, told};
+use crate::calling::allows;
 use crate::faults::ScriptFault;
+use crate::sessions::Session;
 use fabric::Fabric;
 use fabric::pairs::Pair;
-use labels::directories::{bind, find_bound, unbind};
+use labels::directories::{bind, find_bound};
 use labels::names::Name;
-use planner::any_plans::AnyPlan;
 use planner::calls::Call;
 use planner::flows::Flow;
 use script::commands::{Command, Wanted};
@@ -31,98 +28,62 @@ fn flow_of(wanted: Wanted) -> Flow
     }
 }
 
-// Binds the label, where the state allows the call.
-fn take_label(
-    running: bool,
-    labels: &mut [Option<Name>],
-    call: Call,
-    wanted: Wanted,
-) -> Result<(), ScriptFault>
-    ensures { TakesLabel running labels.old call wanted labels.new result }
-{
-    if !allows(running, call) {
-        return Err(ScriptFault::WrongState);
-    }
-    bind(labels, wanted.number, wanted.name)?;
-    Ok(())
-}
-
-// Books a flow under a label.
-fn book<F: Fabric + Drop>(
-    plan: AnyPlan<F>,
-    labels: &mut [Option<Name>],
-    call: Call,
-    wanted: Wanted,
-) -> After<F>
-    requires { (d : Module) → call ≢ Fit d }
-    ensures { BooksLabelled (state (any_shows F.Fabric.meaning plan) labels.old) call wanted result.answer (state (any_shows F.Fabric.meaning result.plan) labels.new) }
-{
-    if let Err(fault) = take_label(plan.is_running(), labels, call, wanted) {
-        return After {
-            plan,
-            answer: Err(fault),
-        };
-    }
-    let (plan, answer) = make(plan, call);
-    if answer.is_err() {
-        // the entry was empty before, so the labels are again as they were
-        let _ = unbind(labels, wanted.number);
-    }
-    After {
-        plan,
-        answer: told(answer),
-    }
-}
-
-// Withdraws the flow of a label.
-fn unbook<F: Fabric + Drop>(plan: AnyPlan<F>, labels: &mut [Option<Name>], name: Name) -> After<F>
-    ensures { UnbooksLabelled (state (any_shows F.Fabric.meaning plan) labels.old) name result.answer (state (any_shows F.Fabric.meaning result.plan) labels.new) }
-{
-    let number = match find_bound(labels, name) {
-        Ok(number) => u16::from(number),
-        Err(fault) => {
-            return After {
-                plan,
-                answer: Err(fault.into()),
-            };
+impl<F: Fabric + Drop> Session<F> {
+    // The labels with the one that is wanted, where the state allows the call and the label may be bound.
+    fn labels_with(&self, call: Call, wanted: Wanted) -> Result<[Option<Name>; 64], ScriptFault>
+        ensures { Labelled (state_of self.now) call wanted result }
+    {
+        if !allows(self.plan.is_running(), call) {
+            return Err(ScriptFault::WrongState);
         }
-    };
-    let (plan, answer) = make(plan, Call::Withdraw(number));
-    if answer.is_ok() {
-        let _ = unbind(labels, number);
+        let mut labels = self.labels;
+        bind(&mut labels, wanted.number, wanted.name)?;
+        Ok(labels)
     }
-    After {
-        plan,
-        answer: told(answer),
-    }
-}
 
-/// Obeys a command that is not `show`.
-pub(crate) fn obey<F: Fabric + Drop>(
-    plan: AnyPlan<F>,
-    labels: &mut [Option<Name>],
-    command: Command,
-) -> After<F>
-    requires { command ≢ Show }
-    ensures { Obeyed (state (any_shows F.Fabric.meaning plan) labels.old) command result.answer (state (any_shows F.Fabric.meaning result.plan) labels.new) }
-{
-    match command {
-        Command::Enrol(wanted) => book(
-            plan,
-            labels,
-            Call::Enrol(wanted.number, flow_of(wanted)),
-            wanted,
-        ),
-        Command::Admit(wanted) => book(
-            plan,
-            labels,
-            Call::Admit(wanted.number, flow_of(wanted)),
-            wanted,
-        ),
-        Command::Withdraw(name) => unbook(plan, labels, name),
-        Command::Replan => call_alone(plan, Call::Replan),
-        Command::Start => call_alone(plan, Call::Start),
-        Command::Rest => call_alone(plan, Call::Rest),
-        Command::Show => unreachable(),
+    // Books a flow under a label.
+    fn book(self, call: Call, wanted: Wanted) -> (Self, Result<(), ScriptFault>)
+        requires { (call ≡ Enrol wanted.number (flow_of wanted)) ⊎ (call ≡ Admit wanted.number (flow_of wanted)) }
+        ensures { BooksLabelled (state_of self) call wanted result.1 (state_of result.0) }
+    {
+        match self.labels_with(call, wanted) {
+            Ok(labels) => self.make(call, labels),
+            Err(fault) => (self, Err(fault)),
+        }
+    }
+
+    // Withdraws the flow of a label.
+    fn unbook(self, name: Name) -> (Self, Result<(), ScriptFault>)
+        ensures { UnbooksLabelled (state_of self) name result.1 (state_of result.0) }
+    {
+        match find_bound(&self.labels, name) {
+            Ok(number) => {
+                let mut labels = self.labels;
+                labels[usize::from(number)] = None;
+                self.make(Call::Withdraw(number.into()), labels)
+            }
+            Err(fault) => (self, Err(fault.into())),
+        }
+    }
+
+    /// Obeys a command that is not `show`.
+    pub(crate) fn obey(self, command: Command) -> (Self, Result<(), ScriptFault>)
+        requires { command ≢ Show }
+        ensures { Obeyed (state_of self) command result.1 (state_of result.0) }
+    {
+        let labels = self.labels;
+        match command {
+            Command::Enrol(wanted) => {
+                self.book(Call::Enrol(wanted.number, flow_of(wanted)), wanted)
+            }
+            Command::Admit(wanted) => {
+                self.book(Call::Admit(wanted.number, flow_of(wanted)), wanted)
+            }
+            Command::Withdraw(name) => self.unbook(name),
+            Command::Replan => self.make(Call::Replan, labels),
+            Command::Start => self.make(Call::Start, labels),
+            Command::Rest => self.make(Call::Rest, labels),
+            Command::Show => unreachable(),
+        }
     }
 }

@@ -1,18 +1,31 @@
 //! Where a session prints its lines.
-ghost use Rattle.std.specs.Prelude.{◌≡◌, ℕ, List, OnOk};
+ghost use Rattle.std.specs.Prelude.{◌≡◌, ℕ, List, Some, OnOk};
+ghost use Rattle.session.specs.Refusals.{fault_text};
 ghost use Rattle.session.specs.declared.printers.RunFault.TheVariants.{NoMemory, Unprinted as NotPrinted};
 
 use std::alloc::AllocError;
+use std::fmt;
 
 /// The line could not be printed.
-#[derive(Clone, Copy)]
+#[derive(Clone, Copy, PartialEq, Eq, Debug)]
 pub struct Unprinted;
 
 /// Why a run broke off: there was no memory for a line, or it could not be printed.
-#[derive(Clone, Copy)]
+#[derive(Clone, Copy, PartialEq, Eq, Debug)]
 pub enum RunFault {
     NoMemory,
     Unprinted,
+}
+
+impl fmt::Display for RunFault {
+    ghost output = { λ fault. Some (fault_text fault) };
+
+    fn fmt<W: fmt::Write>(&self, f: &mut fmt::Formatter<W>) -> fmt::Result {
+        match self {
+            Self::NoMemory => write!(f, "there is no memory for a line"),
+            Self::Unprinted => write!(f, "a line cannot be printed"),
+        }
+    }
 }
 
 impl From<AllocError> for RunFault {

@@ -1,161 +1,118 @@
 //! How a script is run.
-ghost use Rattle.std.specs.Prelude.{◌≡◌, ℕ, ◌≤◌, List, [], ◌∷◌, length, drop, IfOk, Ok, OnOk};
-ghost use Rattle.planner.specs.Outcomes.{any_shows};
-ghost use Rattle.script.specs.Lines.{LinesOf};
+ghost use Rattle.std.specs.Prelude.{◌≡◌, ℕ, ◌≤◌, List, [], ◌∷◌, length, IfOk, Ok, OnOk};
+ghost use Rattle.script.specs.Lines.{LinesOf, left};
 ghost use Rattle.session.specs.Answers.{answer_line};
-ghost use Rattle.session.specs.Output.{CommandTold, Handed, LineTold, OpeningTold, Output, RestTold, unlabelled};
-ghost use Rattle.session.specs.Parts.{state};
-ghost use Rattle.session.specs.Sessions.{Named};
-ghost use Rattle.session.specs.Starts.{built_meaning};
+ghost use Rattle.session.specs.Output.{CommandTold, Handed, LineTold, OpeningTold, Output, RestTold};
+ghost use Rattle.session.specs.Parts.{Tells, state_of};
 
-use crate::answers::answer_line;
 use crate::builds::Built;
-use crate::calling::After;
 use crate::faults::ScriptFault;
-use crate::obeying::obey;
 use crate::printers::{Printer, RunFault};
-use crate::showing::show;
+use crate::sessions::Session;
 use crate::starting::{build, period_of};
+use crate::tellers::Teller;
 use fabric::Fabric;
-use labels::names::Name;
-use planner::any_plans::AnyPlan;
-use planner::plans::Plan;
 use script::commands::{Command, read_command};
-use script::lines::line_at;
+use script::lines::Lines;
 use std::alloc::Global;
 
 // How many bytes a script may have.
 const LIMIT: usize = 16_384;
 
-// Prints the answer to the line of this number.
-fn answer<P: Printer>(
-    given: Result<(), ScriptFault>,
-    number: usize,
-    heap: Global,
-    out: &mut P,
-) -> Result<(), RunFault>
-    ensures { OnOk result (Handed P.Printer.took out.old (answer_line given number ∷ []) out.new) }
-{
-    let text = answer_line(heap, given, number)?;
-    out.print_line(text.as_str())?;
-    Ok(())
-}
-
-// Obeys a command, and prints what it is told.
-fn tell_command<F: Fabric + Drop, P: Printer>(
-    plan: AnyPlan<F>,
-    labels: &mut [Option<Name>],
-    command: Command,
-    number: usize,
-    heap: Global,
-    out: &mut P,
-) -> Result<AnyPlan<F>, RunFault>
-    requires named { Named (state (any_shows F.Fabric.meaning plan) labels.old) }
-    requires whole { length labels.old ≡ 64 }
-    ensures { IfOk result (λ after. (piece : List (List ℕ)) × CommandTold number (state (any_shows F.Fabric.meaning plan) labels.old) command piece (state (any_shows F.Fabric.meaning after) labels.new) × Handed P.Printer.took out.old piece out.new × Named (state (any_shows F.Fabric.meaning after) labels.new)) }
-{
-    match command {
-        Command::Show => {
-            show(&plan, labels, heap, out)?;
-            Ok(plan)
-        }
-        _ => {
-            let After {
-                plan,
-                answer: given,
-            } = obey(plan, labels, command);
-            answer(given, number, heap, out)?;
-            Ok(plan)
+impl<P: Printer> Teller<'_, P> {
+    // Obeys a command, and prints what it is told.
+    fn tell_command<F: Fabric + Drop>(
+        &mut self,
+        session: Session<F>,
+        command: Command,
+        number: usize,
+    ) -> Result<Session<F>, RunFault>
+        ensures { IfOk result (λ after. (piece : List (List ℕ)) × CommandTold number (state_of session) command piece (state_of after) × Tells P.Printer.took self.old piece self.new) }
+    {
+        match command {
+            Command::Show => {
+                session.show(self)?;
+                Ok(session)
+            }
+            _ => {
+                let (session, given) = session.obey(command);
+                self.answer(given, number)?;
+                Ok(session)
+            }
         }
     }
-}
 
-// Obeys a line after the first two, and prints what it is told.
-fn tell_line<F: Fabric + Drop, P: Printer>(
-    plan: AnyPlan<F>,
-    labels: &mut [Option<Name>],
-    line: &[u8],
-    number: usize,
-    heap: Global,
-    out: &mut P,
-) -> Result<AnyPlan<F>, RunFault>
-    requires named { Named (state (any_shows F.Fabric.meaning plan) labels.old) }
-    requires whole { length labels.old ≡ 64 }
-    ensures { IfOk result (λ after. (piece : List (List ℕ)) × LineTold number (state (any_shows F.Fabric.meaning plan) labels.old) line.now piece (state (any_shows F.Fabric.meaning after) labels.new) × Handed P.Printer.took out.old piece out.new × Named (state (any_shows F.Fabric.meaning after) labels.new)) }
-{
-    match read_command(line) {
-        Some(command) => tell_command(plan, labels, command, number, heap, out),
-        None => {
-            answer(Err(ScriptFault::NoForm), number, heap, out)?;
-            Ok(plan)
+    // Obeys a line after the first two, and prints what it is told.
+    fn tell_line<F: Fabric + Drop>(
+        &mut self,
+        session: Session<F>,
+        line: &[u8],
+        number: usize,
+    ) -> Result<Session<F>, RunFault>
+        ensures { IfOk result (λ after. (piece : List (List ℕ)) × LineTold number (state_of session) line.now piece (state_of after) × Tells P.Printer.took self.old piece self.new) }
+    {
+        match read_command(line) {
+            Some(command) => self.tell_command(session, command, number),
+            None => {
+                self.answer(Err(ScriptFault::NoForm), number)?;
+                Ok(session)
+            }
         }
     }
-}
 
-// Obeys the lines from a place on, of which the first is line 3, on a plan that was just opened.
-fn run_rest<F: Fabric + Drop, P: Printer>(
-    script: &[u8],
-    from: usize,
-    opened: AnyPlan<F>,
-    heap: Global,
-    out: &mut P,
-) -> Result<(), RunFault>
-    requires few { length script.now ≤ 16384 }
-    requires within { from ≤ length script.now }
-    requires named { Named (state (any_shows F.Fabric.meaning opened) unlabelled) }
-    ensures { OnOk result ((lines : List (List ℕ)) × (told : List (List ℕ)) × LinesOf (drop from script.now) lines × RestTold 3 (state (any_shows F.Fabric.meaning opened) unlabelled) lines told × Handed P.Printer.took out.old told out.new) }
-{
-    let mut plan = opened;
-    let mut labels = [None; 64];
-    let mut at = from;
-    let mut number = 3;
-    while let Some(line) = line_at(script, at) {
-        plan = tell_line(plan, &mut labels, line.bytes, number, heap, out)?;
-        at = line.next;
-        number += 1;
-    }
-    Ok(())
-}
-
-// Runs the lines from a place on, of which the first is line 2, over the fabric of line 1.
-fn run_over<F: Fabric + Drop, P: Printer>(
-    script: &[u8],
-    from: usize,
-    fabric: F,
-    heap: Global,
-    out: &mut P,
-) -> Result<(), RunFault>
-    requires few { length script.now ≤ 16384 }
-    ensures { OnOk result ((lines : List (List ℕ)) × (told : List (List ℕ)) × LinesOf (drop from script.now) lines × OpeningTold (F.Fabric.meaning fabric) lines told × Handed P.Printer.took out.old (answer_line (Ok tt) 1 ∷ told) out.new) }
-{
-    answer(Ok(()), 1, heap, out)?;
-    let Some(line) = line_at(script, from) else {
-        return Ok(());
-    };
-    match period_of(line.bytes) {
-        Ok(period) => {
-            answer(Ok(()), 2, heap, out)?;
-            let plan = AnyPlan::Resting(Plan::open(fabric, period));
-            run_rest(script, line.next, plan, heap, out)
+    // Obeys the lines that are left of a script, of which the first is line 3.
+    fn run_rest<F: Fabric + Drop>(
+        &mut self,
+        lines: Lines<'_>,
+        mut session: Session<F>,
+    ) -> Result<(), RunFault>
+        requires { length (left lines) ≤ 16384 }
+        ensures { OnOk result ((all : List (List ℕ)) × (told : List (List ℕ)) × LinesOf (left lines.entry) all × RestTold 3 (state_of session) all told × Tells P.Printer.took self.old told self.new) }
+    {
+        for (number, line) in (3..).zip(lines) {
+            session = self.tell_line(session, line, number)?;
         }
-        Err(fault) => answer(Err(fault), 2, heap, out),
+        Ok(())
     }
-}
 
-// The same, over a fabric of either kind.
-fn run_built<P: Printer>(
-    script: &[u8],
-    from: usize,
-    built: Built,
-    heap: Global,
-    out: &mut P,
-) -> Result<(), RunFault>
-    requires few { length script.now ≤ 16384 }
-    ensures { OnOk result ((lines : List (List ℕ)) × (told : List (List ℕ)) × LinesOf (drop from script.now) lines × OpeningTold (built_meaning built) lines told × Handed P.Printer.took out.old (answer_line (Ok tt) 1 ∷ told) out.new) }
-{
-    match built {
-        Built::Line(fabric) => run_over(script, from, fabric, heap, out),
-        Built::Tree(fabric) => run_over(script, from, fabric, heap, out),
+    // Runs the lines that are left of a script, of which the first is line 2, over the fabric of line 1.
+    fn run_over<F: Fabric + Drop>(
+        &mut self,
+        mut lines: Lines<'_>,
+        fabric: F,
+    ) -> Result<(), RunFault>
+        requires { length (left lines) ≤ 16384 }
+        ensures { OnOk result ((all : List (List ℕ)) × (told : List (List ℕ)) × LinesOf (left lines.entry) all × OpeningTold (F.Fabric.meaning fabric) all told × Tells P.Printer.took self.old (answer_line (Ok tt) 1 ∷ told) self.new) }
+    {
+        self.answer(Ok(()), 1)?;
+        let Some(line) = lines.next() else {
+            return Ok(());
+        };
+        match period_of(line) {
+            Ok(period) => {
+                self.answer(Ok(()), 2)?;
+                self.run_rest(lines, Session::open(fabric, period))
+            }
+            Err(fault) => self.answer(Err(fault), 2),
+        }
+    }
+
+    // Runs a script.
+    fn run(&mut self, script: &[u8]) -> Result<(), RunFault>
+        ensures { OnOk result ((told : List (List ℕ)) × Output script.now told × Tells P.Printer.took self.old told self.new) }
+    {
+        if script.len() > LIMIT {
+            return self.answer(Err(ScriptFault::NoForm), 0);
+        }
+        let mut lines = Lines::new(script);
+        let Some(line) = lines.next() else {
+            return Ok(());
+        };
+        match build(line) {
+            Ok(Built::Line(fabric)) => self.run_over(lines, fabric),
+            Ok(Built::Tree(fabric)) => self.run_over(lines, fabric),
+            Err(fault) => self.answer(Err(fault), 1),
+        }
     }
 }
 
@@ -163,14 +120,5 @@ fn run_built<P: Printer>(
 pub fn run_script<P: Printer>(script: &[u8], heap: Global, out: &mut P) -> Result<(), RunFault>
     ensures { OnOk result ((lines : List (List ℕ)) × Output script.now lines × Handed P.Printer.took out.old lines out.new) }
 {
-    if script.len() > LIMIT {
-        return answer(Err(ScriptFault::NoForm), 0, heap, out);
-    }
-    let Some(line) = line_at(script, 0) else {
-        return Ok(());
-    };
-    match build(line.bytes) {
-        Ok(built) => run_built(script, line.next, built, heap, out),
-        Err(fault) => answer(Err(fault), 1, heap, out),
-    }
+    Teller { heap, out }.run(script)
 }

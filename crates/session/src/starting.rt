@@ -16,10 +16,7 @@ use script::openings::read_opening;
 pub(crate) fn build(line: &[u8]) -> Result<Built, ScriptFault>
     ensures { MatchResult result (λ built. FabricLine line.now (Ok (built_meaning built))) (λ fault. FabricLine line.now (Err fault)) }
 {
-    let Some(description) = read_description(line) else {
-        return Err(ScriptFault::NoForm);
-    };
-    match description {
+    match read_description(line).ok_or(ScriptFault::NoForm)? {
         Description::Line(terminals) => Ok(Built::Line(Line::new(terminals)?)),
         Description::Tree(parents) => {
             let mut tree = Tree::new();
@@ -34,8 +31,6 @@ pub(crate) fn build(line: &[u8]) -> Result<Built, ScriptFault>
 pub(crate) fn period_of(line: &[u8]) -> Result<Period, ScriptFault>
     ensures { MatchResult result (λ period. OpeningLine line.now (Ok period.slots)) (λ fault. OpeningLine line.now (Err fault)) }
 {
-    let Some(slots) = read_opening(line) else {
-        return Err(ScriptFault::NoForm);
-    };
+    let slots = read_opening(line).ok_or(ScriptFault::NoForm)?;
     Ok(Period::new(slots)?)
 }

@@ -73,19 +73,18 @@ fn step<F: Fabric + Drop>(plan: AnyPlan<F>, call: Call, tally: &mut Tally) -> An
     }
 }
 
-/// Makes so many calls, and looks at the plan after each.
+/// Makes so many calls, looks at the plan after each, and counts what was done and seen.
 pub(crate) fn drive<F: Fabric + Drop>(
-    plan: AnyPlan<F>,
+    mut plan: AnyPlan<F>,
     twin: &F,
     dice: &mut Dice,
     calls: u16,
-    tally: &mut Tally,
-) -> AnyPlan<F> {
-    let mut plan = plan;
+) -> (AnyPlan<F>, Tally) {
+    let mut tally = Tally::default();
     for _ in 0..calls {
         let call = any_call(dice, twin.terminals(), plan.is_running());
-        plan = step(plan, call, tally);
+        plan = step(plan, call, &mut tally);
         tally.note_look(doubles(&plan, twin), miscounts(&plan));
     }
-    plan
+    (plan, tally)
 }

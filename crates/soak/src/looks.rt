@@ -2,60 +2,50 @@
 use fabric::Fabric;
 use fabric::overlaps::overlap;
 use planner::any_plans::AnyPlan;
+use planner::questions::Questions;
 
-/// How many slots of the period the flow holds.
-pub(crate) fn held<F: Fabric>(plan: &AnyPlan<F>, number: u16) -> u16 {
-    let mut count: u16 = 0;
-    for slot in 0..plan.period() {
-        if plan.holds(number, u16::from(slot)) {
-            count = count.saturating_add(1);
-        }
-    }
-    count
+// How many slots of the period the flow holds.
+fn held<F: Fabric>(plan: &AnyPlan<F>, number: u16) -> usize {
+    (0..u16::from(plan.period()))
+        .filter(|slot| plan.holds(number, *slot))
+        .count()
+}
+
+// Whether the flow holds slots, and not as many as it demands.
+fn is_miscounted<F: Fabric>(plan: &AnyPlan<F>, number: u16) -> bool {
+    let count = held(plan, number);
+    count != 0 && count != usize::from(plan.demand(number))
 }
 
 /// How many flows hold slots, and not as many as they demand.
-pub(crate) fn miscounts<F: Fabric>(plan: &AnyPlan<F>) -> u32 {
-    let mut found: u32 = 0;
-    for number in 0..70u16 {
-        let count = held(plan, number);
-        if count != 0 && count != plan.demand(number) {
-            found = found.saturating_add(1);
-        }
-    }
-    found
+pub(crate) fn miscounts<F: Fabric>(plan: &AnyPlan<F>) -> usize {
+    (0..70)
+        .filter(|number| is_miscounted(plan, *number))
+        .count()
 }
 
 // Whether both flows hold some slot.
 fn meet<F: Fabric>(plan: &AnyPlan<F>, one: u16, other: u16) -> bool {
-    for slot in 0..plan.period() {
-        let slot = u16::from(slot);
-        if plan.holds(one, slot) && plan.holds(other, slot) {
-            return true;
-        }
-    }
-    false
+    (0..u16::from(plan.period())).any(|slot| plan.holds(one, slot) && plan.holds(other, slot))
 }
 
 // Whether two flows are carried on one link in one slot.
 fn clash<F: Fabric>(plan: &AnyPlan<F>, twin: &F, one: u16, other: u16) -> bool {
-    match (plan.flow(one), plan.flow(other)) {
-        (Some(first), Some(second)) => {
-            meet(plan, one, other) && overlap(twin, first.ends, second.ends)
-        }
-        _ => false,
-    }
+    plan.flow(one).zip(plan.flow(other)).is_some_and(|(first, second)| {
+        meet(plan, one, other) && overlap(twin, first.ends, second.ends)
+    })
+}
+
+// With how many flows below it the flow is carried on one link in one slot.
+fn clashes<F: Fabric>(plan: &AnyPlan<F>, twin: &F, one: u16) -> usize {
+    (0..one)
+        .filter(|other| clash(plan, twin, one, *other))
+        .count()
 }
 
 /// How many pairs of flows are carried on one link in one slot.
-pub(crate) fn doubles<F: Fabric>(plan: &AnyPlan<F>, twin: &F) -> u32 {
-    let mut found: u32 = 0;
-    for one in 0..64u16 {
-        for other in 0..one {
-            if clash(plan, twin, one, other) {
-                found = found.saturating_add(1);
-            }
-        }
-    }
-    found
+pub(crate) fn doubles<F: Fabric>(plan: &AnyPlan<F>, twin: &F) -> usize {
+    (0..64)
+        .map(|one| clashes(plan, twin, one))
+        .fold(0, usize::saturating_add)
 }

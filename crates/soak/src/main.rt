@@ -42,74 +42,68 @@ struct Soak {
     total: Tally,
 }
 
-// Drives a plan, then one with a module on its fabric, begun where the first ended. The twins of the fabrics answer for
-// the looks, apart from the plans.
-fn drive_with_module<F: Fabric + Drop>(
-    rt: &HostRuntime,
-    soak: &mut Soak,
-    name: &str,
-    fabric: F,
-    twin: F,
-) -> anyhow::Result<()> {
-    let plan = AnyPlan::Resting(Plan::open(fabric, soak.period));
-    let mut tally = Tally::new();
-    let driven = drive(plan, &twin, &mut soak.dice, 1000, &mut tally);
-    println!(rt; "{name}: {tally}")?;
-    soak.total.add(&tally);
-    // at rest, every flow of the plan is placed anew or refused; then a module is put on the fabric
-    let mut rested = match driven {
-        AnyPlan::Running(plan) => plan.rest(),
-        AnyPlan::Resting(plan) => plan,
-    };
-    let placed = rested.replan().is_ok();
-    let module = Module { port: 1, count: 2 };
-    let fits = rested.fits(module).is_ok();
-    println!(rt; "{name}: placed {placed}, a module fits {fits}")?;
-    let fitted = AnyPlan::Resting(rested.fit(module));
-    let mut more = Tally::new();
-    let _ = drive(
-        fitted,
-        &Spur::new(twin, module),
-        &mut soak.dice,
-        1500,
-        &mut more,
-    );
-    println!(rt; "{name} with a module: {more}")?;
-    soak.total.add(&more);
-    Ok(())
+impl Soak {
+    // Drives a plan over the fabric that is made, then one with a module on its fabric, begun where the first ended. The
+    // fabric is made twice: its twin answers for the looks, apart from the plans.
+    fn drive_with_module<F: Fabric + Drop, M: Fn() -> anyhow::Result<F>>(
+        &mut self,
+        rt: &HostRuntime,
+        name: &str,
+        make: M,
+    ) -> anyhow::Result<()>
+        requires { M.IsAlwaysCallable make }
+    {
+        let twin = make()?;
+        let plan = AnyPlan::Resting(Plan::open(make()?, self.period));
+        let (driven, tally) = drive(plan, &twin, &mut self.dice, 1000);
+        println!(rt; "{name}: {tally}")?;
+        self.total += tally;
+        // at rest, every flow of the plan is placed anew or refused; then a module is put on the fabric
+        let mut rested = match driven {
+            AnyPlan::Running(plan) => plan.rest(),
+            AnyPlan::Resting(plan) => plan,
+        };
+        let placed = rested.replan().is_ok();
+        let module = Module { port: 1, count: 2 };
+        let fits = rested.fits(module).is_ok();
+        println!(rt; "{name}: placed {placed}, a module fits {fits}")?;
+        let fitted = AnyPlan::Resting(rested.fit(module));
+        let (_, more) = drive(fitted, &Spur::new(twin, module), &mut self.dice, 1500);
+        println!(rt; "{name} with a module: {more}")?;
+        self.total += more;
+        Ok(())
+    }
 }
 
 fn line() -> anyhow::Result<Line> {
-    match Line::new(8) {
-        Ok(line) => Ok(line),
-        Err(_) => Err(anyhow!("no line")),
-    }
+    Line::new(8).map_err(|_| anyhow!("no line"))
+}
+
+fn tree() -> anyhow::Result<Tree> {
+    let mut tree = Tree::new();
+    tree.fill(&[0, 0, 1, 1, 2, 4, 4, 2, 8])
+        .map_err(|_| anyhow!("the tree"))?;
+    Ok(tree)
+}
+
+fn ring() -> anyhow::Result<RouteList<'static>> {
+    Ok(RouteList::new(RING))
+}
+
+fn spur() -> anyhow::Result<Spur<Line>> {
+    Ok(Spur::new(line()?, Module { port: 6, count: 3 }))
 }
 
 fn run(rt: &HostRuntime) -> anyhow::Result<()> {
-    let Ok(period) = Period::new(9) else {
-        return Err(anyhow!("the period"));
-    };
     let mut soak = Soak {
         dice: Dice::new(2026),
-        period,
-        total: Tally::new(),
+        period: Period::new(9).map_err(|_| anyhow!("the period"))?,
+        total: Tally::default(),
     };
-    drive_with_module(rt, &mut soak, "line", line()?, line()?)?;
-    let mut tree = Tree::new();
-    let mut tree_twin = Tree::new();
-    let parents = [0, 0, 1, 1, 2, 4, 4, 2, 8];
-    if tree.fill(&parents).is_err() || tree_twin.fill(&parents).is_err() {
-        return Err(anyhow!("the tree"));
-    }
-    drive_with_module(rt, &mut soak, "tree", tree, tree_twin)?;
-    let ring = RouteList::new(RING);
-    let ring_twin = RouteList::new(RING);
-    drive_with_module(rt, &mut soak, "ring", ring, ring_twin)?;
-    let module = Module { port: 6, count: 3 };
-    let spur = Spur::new(line()?, module);
-    let spur_twin = Spur::new(line()?, module);
-    drive_with_module(rt, &mut soak, "spur", spur, spur_twin)?;
+    soak.drive_with_module(rt, "line", line)?;
+    soak.drive_with_module(rt, "tree", tree)?;
+    soak.drive_with_module(rt, "ring", ring)?;
+    soak.drive_with_module(rt, "spur", spur)?;
     let total = soak.total;
     println!(rt; "total: {total}")?;
     Ok(())

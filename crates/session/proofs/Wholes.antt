@@ -43,18 +43,18 @@ module _ {P : Type 0} (took : P → List ℕ → P → Type 0) (r : Result (Unit
       let all = stand after in
       IfOk-weaker r (λ _. Tells took u (answer_line (Err f) 2 ∷ []) v) (λ _. OpensOn left m w v) (λ _ q. (line ∷ all.0, answer_line (Err f) 2 ∷ [], first.adds all.0 all.1, inl (f, ol, refl), tells_more took (answer_line (Ok tt) 1 ∷ []) (answer_line (Err f) 2 ∷ []) w u v h q))
 
-  pub fabric_accepted : (script line after : List ℕ) (m : Meaning) (w v : Teller P)
-      → length script ≤ 16384 → FirstLine script line after → FabricLine line (Ok m)
+  pub fabric_accepted : (script whole line after : List ℕ) (m : Meaning) (w v : Teller P)
+      → length script ≤ 16384 → whole ≡ script → FirstLine whole line after → FabricLine line (Ok m)
       → IfOk r (λ _. OpensOn after m w v) → IfOk r (λ _. Runs script w v)
-  fabric_accepted script line after m w v few first fl =
-      IfOk-weaker r (λ _. OpensOn after m w v) (λ _. Runs script w v) (λ _ q. (answer_line (Ok tt) 1 ∷ q.1, inr (few, (line ∷ q.0, first.adds q.0 q.2, inr (m, q.1, fl, q.3, refl))), q.4))
+  fabric_accepted script whole line after m w v few same first fl =
+      IfOk-weaker r (λ _. OpensOn after m w v) (λ _. Runs script w v) (λ _ q. (answer_line (Ok tt) 1 ∷ q.1, inr (few, (line ∷ q.0, subst (λ l. LinesOf l (line ∷ q.0)) same (first.adds q.0 q.2), inr (m, q.1, fl, q.3, refl))), q.4))
 
-  pub fabric_refused : (script line after : List ℕ) (f : ScriptFault) (w v : Teller P)
-      → length script ≤ 16384 → FirstLine script line after → FabricLine line (Err f)
+  pub fabric_refused : (script whole line after : List ℕ) (f : ScriptFault) (w v : Teller P)
+      → length script ≤ 16384 → whole ≡ script → FirstLine whole line after → FabricLine line (Err f)
       → IfOk r (λ _. Tells took w (answer_line (Err f) 1 ∷ []) v) → IfOk r (λ _. Runs script w v)
-  fabric_refused script line after f w v few first fl =
+  fabric_refused script whole line after f w v few same first fl =
       let all = stand after in
-      IfOk-weaker r (λ _. Tells took w (answer_line (Err f) 1 ∷ []) v) (λ _. Runs script w v) (λ _ q. (answer_line (Err f) 1 ∷ [], inr (few, (line ∷ all.0, first.adds all.0 all.1, inl (f, fl, refl))), q))
+      IfOk-weaker r (λ _. Tells took w (answer_line (Err f) 1 ∷ []) v) (λ _. Runs script w v) (λ _ q. (answer_line (Err f) 1 ∷ [], inr (few, (line ∷ all.0, subst (λ l. LinesOf l (line ∷ all.0)) same (first.adds all.0 all.1), inl (f, fl, refl))), q))
 
   pub too_long : (script : List ℕ) (w v : Teller P) → 16384 < length script
       → IfOk r (λ _. Tells took w (answer_line (Err NoForm) 0 ∷ []) v) → IfOk r (λ _. Runs script w v)

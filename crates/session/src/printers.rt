@@ -4,6 +4,7 @@ ghost use Rattle.session.specs.Refusals.{fault_text};
 ghost use Rattle.session.specs.declared.printers.RunFault.TheVariants.{NoMemory, Unprinted as NotPrinted};
 
 use std::alloc::AllocError;
+use std::error::Error;
 use std::fmt;
 
 /// The line could not be printed.
@@ -27,6 +28,8 @@ impl fmt::Display for RunFault {
         }
     }
 }
+
+impl Error for RunFault {}
 
 impl From<AllocError> for RunFault {
     ghost from_gives = { λ _ r. r ≡ NoMemory };

@@ -1,6 +1,6 @@
 //! Numbers in a bad order, the same in every run.
 
-/// A linear congruential generator.
+/// A linear congruential generator; its own, so that no crate's other numbers change what must be printed.
 #[derive(Drop)]
 pub(crate) struct Dice {
     state: u32,

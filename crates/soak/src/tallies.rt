@@ -3,6 +3,7 @@ use planner::plan_faults::PlanFault;
 use std::fmt;
 use std::ops::AddAssign;
 
+// The counts stop at the greatest number, since nothing bounds how often they grow.
 #[derive(Clone, Copy, Default)]
 pub(crate) struct Tally {
     calls: usize,

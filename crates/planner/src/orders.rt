@@ -66,7 +66,8 @@ pub(crate) fn last_of(flows: FlowSet, overlaps: &Overlaps) -> Option<FlowNumber>
     ensures { MatchOption result ((f : ℕ) → MayComeLast (overlapping overlaps.now.groups) (members flows) f → ⊥) (λ flow. ChosenLast (overlapping overlaps.now.groups) (members flows) flow.number) }
 {
     let mut candidates = flows;
-    'search: while let Some(flow) = candidates.take_highest() {
+    'search: loop {
+        let flow = candidates.take_highest()?;
         let beside = overlaps.group(flow).intersection(flows);
         let mut others = beside;
         while let Some(other) = others.take_highest() {
@@ -74,9 +75,8 @@ pub(crate) fn last_of(flows: FlowSet, overlaps: &Overlaps) -> Option<FlowNumber>
                 continue 'search;
             }
         }
-        return Some(flow);
+        break 'search Some(flow);
     }
-    None
 }
 
 /// The order of the flows that is chosen from its end: the flow that comes last is put aside, and the same is

@@ -6,6 +6,7 @@ use fabric::Fabric;
 use fabric::spurs::Spur;
 
 /// A plan whose state is known only when the program runs.
+// Plans and what comes of them are not compared or printed: a fabric need not be.
 #[derive(Drop)]
 pub enum AnyPlan<F: Fabric> {
     Resting(Plan<F, Resting>),

@@ -3,6 +3,7 @@ use crate::flow_sets::FlowSet;
 use crate::overlaps::Overlaps;
 
 /// Flows, which flows overlap, what each demands, by number, and how many slots the period has.
+// The overlaps are a type of their own, which keeps that overlap is mutual, so the demands stand in an array beside it.
 #[derive(Clone, Copy, PartialEq, Eq, Debug)]
 pub struct FlowLoad {
     pub flows: FlowSet,

@@ -94,6 +94,7 @@ mod tests {
 
     fn eleven_overlaps() -> Overlaps {
         let mut overlaps = Overlaps::none();
+        // two flows at a time, each asked for by its number
         for one in 1..12u8 {
             for other in 1..one {
                 if CROSSES[one as usize] & CROSSES[other as usize] != 0 {

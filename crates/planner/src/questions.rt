@@ -42,6 +42,7 @@ pub trait Questions {
     fn wait(&self, number: u16) -> u8
         ensures { Wait ((shown self.now).holds number) (shown self.now).period result }
     {
+        // a loop, since two values are carried on from slot to slot; a fold over both reads no plainer
         let mut wait = 0;
         let mut last = None;
         for slot in 0..self.period() {

@@ -34,6 +34,7 @@ pub(crate) fn on_line(terminals: u16, slots: u16) -> Result<Plan<Line, Resting>,
 
 // The slots that a flow holds: bit s for slot s.
 pub(crate) fn held(plan: &impl Questions, number: u16) -> u64 {
+    // a loop, since each slot is asked for by its number and has its bit by it
     let mut slots = 0;
     for slot in 0..64u8 {
         if plan.holds(number, u16::from(slot)) {

@@ -10,6 +10,7 @@ use fabric::pairs::Pair;
 use fabric::{Fabric, Size};
 
 /// A fabric, or a pile with a module joined to it.
+// Not compared or printed: a fabric need not be.
 #[derive(Drop)]
 pub enum Pile<F: Fabric> {
     Base(F),

@@ -6,6 +6,7 @@ mod reading;
 pub use reading::read_description;
 
 /// The parents of a tree's terminals 1, 2 and so on, at most 127.
+// A derived `==` would compare the room that is not used.
 #[derive(Clone, Copy)]
 pub struct Parents {
     // an `ArrayVec` would not be `Copy`, as a description is
@@ -15,6 +16,7 @@ pub struct Parents {
 }
 
 /// The fabric of a session.
+// Not compared, since `Parents` are not.
 #[derive(Clone, Copy)]
 pub enum Description {
     /// A line of so many terminals.

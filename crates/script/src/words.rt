@@ -14,7 +14,7 @@ pub(crate) enum Kind {
 }
 
 /// A word: a name, which is a part of the script, or a number.
-#[derive(Clone, Copy)]
+#[derive(Clone, Copy, PartialEq, Eq, Debug)]
 pub(crate) enum Word<'a> {
     Name(&'a [u8]),
     Number(u16),

@@ -2,6 +2,7 @@
 use fabric::lines::Line;
 use fabric::trees::Tree;
 
+// Not compared or printed: a fabric need not be.
 #[derive(Drop)]
 pub(crate) enum Built {
     Line(Line),

@@ -21,6 +21,7 @@ pub(crate) enum ScriptFault {
     Plan(PlanFault),
 }
 
+// These by hand, since contracts name the fault that a `?` makes.
 impl From<FabricFault> for ScriptFault {
     ghost from_gives = { λ e r. r ≡ Fabric e };
 

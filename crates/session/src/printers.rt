@@ -31,6 +31,7 @@ impl fmt::Display for RunFault {
 
 impl Error for RunFault {}
 
+// Both by hand, since contracts name the fault that a `?` makes.
 impl From<AllocError> for RunFault {
     ghost from_gives = { λ _ r. r ≡ NoMemory };
 

@@ -6,6 +6,7 @@ ghost use Rattle.session.specs.Shows.{slot_row};
 
 use fabric::Fabric;
 use planner::any_plans::AnyPlan;
+use planner::questions::Questions;
 use planner::flow_sets::FlowSet;
 
 /// Which of the 64 flows are in the group.

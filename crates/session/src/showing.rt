@@ -12,6 +12,7 @@ use crate::rows::slot_row;
 use fabric::Fabric;
 use labels::names::Name;
 use planner::any_plans::AnyPlan;
+use planner::questions::Questions;
 use script::ranges::Ranges;
 use std::alloc::{AllocError, Global};
 use std::str::from_utf8;

@@ -2,6 +2,7 @@
 use fabric::Fabric;
 use fabric::overlaps::overlap;
 use planner::any_plans::AnyPlan;
+use planner::questions::Questions;
 
 /// How many slots of the period the flow holds.
 pub(crate) fn held<F: Fabric>(plan: &AnyPlan<F>, number: u16) -> u16 {

@@ -1,7 +1,7 @@
 -- A new flow beside what is booked.
-use Rattle.std.proofs.Common.{◌≡◌, ℕ, ◌<◌, Bool, true, false, cond, eqb, is_some, Some, None, sym, ap, ◌∙◌, ⊎_elim}
+use Rattle.std.proofs.Common.{◌≡◌, ℕ, ◌<◌, Bool, true, cond, eqb, is_some, Some, sym, ap, ◌∙◌, ⊎_elim}
 use mathlib.Core.Path.{fun_ext}
-use Rattle.std.proofs.lemmas.Bool.{both_ways, cases_Bool, cases_eq}
+use Rattle.std.proofs.lemmas.Bool.{cases_eq}
 use Rattle.planner.specs.declared.bookings.Booking.{Booking}
 use Rattle.planner.specs.declared.bookings.Bookings.{Bookings}
 use Rattle.planner.specs.Bookings.{booking_at, kept_route}

@@ -1,19 +1,17 @@
 -- What flows that all overlap hold together.
 use Rattle.std.proofs.Common.{◌≡◌, ℕ, zero, suc, ◌<◌, ◌≤◌, Bool, true, false, cond, ◌&&◌, refl, arith}
 use Rattle.std.proofs.lemmas.Bool.{and_parts, and_from}
-use Rattle.std.proofs.lemmas.Bool.Decides.{Decides-below_or}
 use Rattle.planner.specs.Orders.{Within, AllOverlap}
 use Rattle.planner.specs.Slots.{total, count, some_below, taken, Load, Placing, SumsStand}
+use Rattle.planner.proofs.Sharing.{some_decides}
 use Rattle.planner.proofs.Totals.{total_or, total_none, count_le}
 
 module _ (t : ℕ → ℕ → Bool) (n : ℕ) (k : ℕ → Bool) (s : ℕ) where
   pub taken_from : (f : ℕ) → f < n → k f ≡ true → t f s ≡ true → taken t n k s ≡ true
-  unfolding some_below
-  taken_from f b in' h = (Decides-below_or (λ f. k f && t f s) (λ f. (k f && t f s) ≡ true) (some_below (λ f. k f && t f s)) (λ _. (λ e. e, λ e. e)) refl (λ _. refl) n).1 (f, b, and_from (k f) (t f s) in' h)
+  taken_from f b in' h = (some_decides (λ f. k f && t f s) n).1 (f, b, and_from (k f) (t f s) in' h)
 
   pub taken_gives : taken t n k s ≡ true → (f : ℕ) × (f < n) × ((k f && t f s) ≡ true)
-  unfolding some_below
-  taken_gives = (Decides-below_or (λ f. k f && t f s) (λ f. (k f && t f s) ≡ true) (some_below (λ f. k f && t f s)) (λ _. (λ e. e, λ e. e)) refl (λ _. refl) n).0
+  taken_gives = (some_decides (λ f. k f && t f s) n).0
 
 -- no slot is shared by two flows of k
 abbrev pub Unshared : (ℕ → ℕ → Bool) → (ℕ → Bool) → Type 0

@@ -1,10 +1,10 @@
 -- The bookings in a plan's memory.
-use Rattle.std.proofs.Common.{◌≡◌, ℕ, ◌<◌, ◌≤◌, Bool, true, false, cond, not, ◌&&◌, eqb, is_some, Some, None, Option, sym, refl, ap, ◌∙◌, ⊎_elim}
+use Rattle.std.proofs.Common.{◌≡◌, ℕ, ◌<◌, ◌≤◌, Bool, true, false, cond, not, eqb, is_some, Some, None, Option, refl, ap, ◌∙◌, ⊎_elim}
 use Rattle.std.proofs.lemmas.Bool.{true≢false, false≢true, and_right, cases_lt, eq-eqb, ne_eqb, cond-true, cond-false}
 use Rattle.planner.specs.declared.bookings.Booking.{Booking}
 use Rattle.planner.specs.declared.bookings.Bookings.{Bookings}
-use Rattle.planner.specs.Bookings.{booking_at, booked_flow, kept_route, overlap_of, eqb_mutual}
-use Rattle.planner.specs.LinkSets.{crossing, share}
+use Rattle.planner.specs.Bookings.{booking_at, booked_flow, kept_route, overlap_of}
+use Rattle.planner.specs.LinkSets.{share}
 use Rattle.planner.proofs.Sharing.{share_none}
 
 -- the route of what is not booked shares no link

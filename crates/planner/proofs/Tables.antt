@@ -3,7 +3,8 @@ use Rattle.std.proofs.Common.{◌≡◌, ℕ, zero, suc, ◌+◌, ◌^◌, ◌<�
 use Rattle.std.proofs.lemmas.List.{get_or_past, get_or-set_same, get_or-set_other}
 use Rattle.planner.specs.declared.flow_sets.FlowSet.{FlowSet}
 use Rattle.planner.specs.FlowSets.{members}
-use Rattle.std.proofs.lemmas.Bool.{false≢true, cases_Bool, and_parts, and_right, eq-eqb, ne_eqb, lt-ltb, le-ltb, cond-true, cond-false, cases_eq, cases_lt}
+use Rattle.std.proofs.lemmas.Bool.{false≢true, cases_Bool, and_parts, and_right, eq-eqb, ne_eqb, lt-ltb, le-ltb, cond-true, cond-false, cases_eq}
+use Rattle.std.proofs.lemmas.Bool.Decides.{nat_tests}
 use Rattle.planner.specs.Slots.{taken}
 use Rattle.planner.proofs.Bits.{bit_above}
 pub use Rattle.planner.proofs.Bits.{bit_none}
@@ -41,7 +42,7 @@ taken_is t n k s false tells = ⊎_elim
 
 -- another number than m is below m + 1 just if it is below m
 pub below_more : (k m : ℕ) → (k ≡ m → ⊥) → ltb k (m + 1) ≡ ltb k m
-below_more k m ne = ⊎_elim (λ l. lt-ltb k (m + 1) (omega arith) ∙ sym (lt-ltb k m l)) (λ l. le-ltb k (m + 1) (omega arith) ∙ sym (le-ltb k m l)) (cases_lt k m)
+below_more k m ne = grind (arith, nat_tests, ne)
 
 and_true : (b c : Bool) → c ≡ true → (b && c) ≡ b
 and_true true c e = e

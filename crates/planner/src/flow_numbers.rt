@@ -36,6 +36,6 @@ impl From<FlowNumber> for usize {
     ghost from_gives = { λ flow place. place ≡ flow.number };
 
     fn from(flow: FlowNumber) -> usize {
-        flow.number as usize
+        usize::from(flow.number)
     }
 }

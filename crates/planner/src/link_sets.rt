@@ -7,7 +7,7 @@ use fabric::Fabric;
 use fabric::pairs::Pair;
 
 /// A set of links, numbered 0 to 255.
-#[derive(Clone, Copy)]
+#[derive(Clone, Copy, PartialEq, Eq, Debug)]
 pub struct LinkSet {
     words: [u64; 4],
 }
@@ -33,6 +33,7 @@ impl LinkSet {
         ensures { (k : ℕ) → crossing result k ≡ (F.Fabric.meaning fabric.now).crossed pair k }
     {
         let mut links = LinkSet::empty();
+        // links are numbers, and nothing is kept of them that a loop could go over
         for link in 0..fabric.links() {
             if fabric.crosses(pair, link) {
                 links.insert(link);

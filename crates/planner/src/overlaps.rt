@@ -7,7 +7,7 @@ use crate::flow_numbers::FlowNumber;
 use crate::flow_sets::{FlowSet, remove_from_all};
 
 /// For each flow the group of the flows that overlap it. Overlap is mutual, and no flow overlaps itself.
-#[derive(Clone, Copy)]
+#[derive(Clone, Copy, PartialEq, Eq, Debug)]
 pub struct Overlaps {
     pub(crate) groups: [FlowSet; 64],
     ghost symmetric: { (f g : ℕ) → overlapping groups f g ≡ overlapping groups g f },

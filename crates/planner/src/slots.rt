@@ -9,7 +9,7 @@ use crate::flow_sets::{FlowSet, remove_from_all};
 use crate::slot_requests::{SlotRequest, TooFew};
 
 /// For each slot the flows that hold it, so that one AND tells whether a slot is valid.
-#[derive(Clone, Copy)]
+#[derive(Clone, Copy, PartialEq, Eq, Debug)]
 pub struct SlotTable {
     slots: [FlowSet; 255],
 }
@@ -79,6 +79,7 @@ impl SlotTable {
         ensures { Given (holds self.old) (holds self.new) 64 request.flow.number (members request.beside) request.demand request.period }
     {
         let mut left = request.demand;
+        // by number, since the table is asked and marked in turn, and an iterator over it would keep it borrowed
         for slot in 0..request.period {
             if left == 0 {
                 return;

@@ -1,5 +1,5 @@
-use Rattle.std.proofs.Common.{◌≡◌, ℕ, ◌<◌, ◌≤◌, eqb, not, List, length, sym, refl, ap, ◌∙◌, ⊎_elim, arith}
-use Rattle.std.proofs.lemmas.Bool.{and_left, cases_lt, eq-eqb, not_from_true}
+use Rattle.std.proofs.Common.{◌≡◌, ℕ, ◌<◌, eqb, not, List, length, sym, refl, ap, ◌∙◌, arith}
+use Rattle.std.proofs.lemmas.Bool.{and_left, eq-eqb, not_from_true}
 use Rattle.std.proofs.lemmas.List.{get_or_past}
 use Rattle.planner.specs.declared.bookings.Bookings.{Bookings}
 use Rattle.planner.specs.declared.flow_sets.FlowSet.{FlowSet}

@@ -44,8 +44,7 @@ fn any_call(dice: &mut Dice, terminals: u16, running: bool) -> Call
     let number = dice.below(17).saturating_mul(4);
     match dice.below(16) {
         0..=5 if running => Call::Admit(number, any_flow(dice, terminals)),
-        0..=5 => Call::Enrol(number, any_flow(dice, terminals)),
-        6 => Call::Enrol(number, any_flow(dice, terminals)),
+        0..=6 => Call::Enrol(number, any_flow(dice, terminals)),
         7 => Call::Admit(number, any_flow(dice, terminals)),
         8..=11 => Call::Withdraw(number),
         12 if running => Call::Rest,

@@ -20,7 +20,7 @@ held_row s n k all e below same =
 
 -- a flow with a label is booked
 pub shown_flow : (s : State) (n : ℕ) (name : Name) (demand wait : ℕ) (row : List Bool)
-    → Named s.shown.booked s.labels → entry_of s.labels n ≡ Some name → demand ≡ demand_of (s.shown.booked n)
+    → Named s → entry_of s.labels n ≡ Some name → demand ≡ demand_of (s.shown.booked n)
     → Wait (s.shown.holds n) s.shown.period wait → row ≡ slot_row s.shown n
     → ShowsFlow s n (flow_line (spelled name) n demand wait row ∷ [])
 shown_flow s n name demand wait row named entry d w r =
@@ -35,7 +35,7 @@ shown_flow s n name demand wait row named entry d w r =
     there (Some f) e = (name, wait, entry, w, refl)
 
 -- one without is not
-pub no_flow : (s : State) (n : ℕ) → Named s.shown.booked s.labels → entry_of s.labels n ≡ None → ShowsFlow s n []
+pub no_flow : (s : State) (n : ℕ) → Named s → entry_of s.labels n ≡ None → ShowsFlow s n []
 no_flow s n named entry = there (s.shown.booked n) (ap is_some (sym entry) ∙ named n)
   where
     there : (o : Option Flow) → false ≡ is_some o

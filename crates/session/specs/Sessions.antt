@@ -5,11 +5,8 @@ use Rattle.labels.specs.Directories.{Bound, Lowest, Whole, bind_checks, entry_of
 use Rattle.labels.specs.Faults.{AllHold, FirstFails}
 use Rattle.labels.specs.Names.{spelled}
 use Rattle.labels.specs.declared.names.Name.{Name}
-use Rattle.planner.specs.Bookings.{booked_flow, booking_at}
 use Rattle.planner.specs.Shown.{Shown}
 use Rattle.planner.specs.Steps.{Step, allowed}
-use Rattle.planner.specs.declared.any_plans.AnyPlan.{AnyPlan}
-use Rattle.planner.specs.declared.any_plans.AnyPlan.TheVariants.{Resting, Running}
 use Rattle.planner.specs.declared.calls.Call as calls
 use Rattle.planner.specs.declared.calls.Call.TheVariants as call
 use Rattle.planner.specs.declared.flows.Flow.{Flow}
@@ -89,11 +86,6 @@ Obeyed s Start a t = Calls s call.Start a t
 Obeyed s Rest a t = Calls s call.Rest a t
 Obeyed s Show a t = ⊥
 
--- the flow that is booked under a number of a plan, in either state
-abbrev pub booked_in : {F : Type 0} → AnyPlan F → ℕ → Option Flow
-booked_in (Resting plan) n = booked_flow (booking_at plan.bookings n)
-booked_in (Running plan) n = booked_flow (booking_at plan.bookings n)
-
 -- every booked flow has a label, and no other
-abbrev pub Named : (ℕ → Option Flow) → List (Option Name) → Type 0
-Named booked labels = (n : ℕ) → is_some (entry_of labels n) ≡ is_some (booked n)
+abbrev pub Named : State → Type 0
+Named s = (n : ℕ) → is_some (entry_of s.labels n) ≡ is_some (s.shown.booked n)

@@ -16,6 +16,7 @@ use planner::calls::Call;
 use planner::flows::Flow;
 use script::commands::{Command, Wanted};
 
+// The flow that a command wants. No `From`, since both types are other crates'.
 fn flow_of(wanted: Wanted) -> Flow
     ensures { result ≡ flow_of wanted }
 {

@@ -1,6 +1,7 @@
 //! A plan with the labels of its flows, as it is kept. The struct stands alone: definitions that contracts cite name it.
 ghost use Rattle.std.specs.Prelude.{◌≡◌, length};
-ghost use Rattle.session.specs.Sessions.{Named, booked_in};
+ghost use Rattle.planner.specs.Outcomes.{any_shows};
+ghost use Rattle.session.specs.Sessions.{Named};
 
 use fabric::Fabric;
 use labels::names::Name;
@@ -12,5 +13,5 @@ pub(crate) struct Session<F: Fabric> {
     pub(crate) plan: AnyPlan<F>,
     pub(crate) labels: [Option<Name>; 64],
     ghost sized: { length labels ≡ 64 },
-    ghost named: { Named (booked_in plan) labels },
+    ghost named: { Named (record { shown = any_shows F.Fabric.meaning plan; labels = labels }) },
 }

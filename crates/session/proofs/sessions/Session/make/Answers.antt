@@ -1,5 +1,7 @@
 use Rattle.std.proofs.Common.{◌≡◌, sym, inl, inr, rules}
+use Rattle.planner.specs.Outcomes.{any_shows}
 use Rattle.session.specs.Parts.{state_of}
+use Rattle.session.specs.Sessions.{State}
 use Rattle.session.proofs.Booking.{made, plan_answer}
 use Rattle.session.proofs.Naming.{Leaves, named, sized}
 use Rattle.session.proofs.sessions.Session.make.Goals as goal
@@ -16,10 +18,12 @@ pub invariant_of-result : goal.invariant_of-result
 invariant_of-result g c =
     let means = g.F.Fabric.meaning in
     let self = c.args.self in
+    let labels = c.if-is_ok.labels in
+    let after : State = record { shown = any_shows means c.in-Answered.plan; labels = labels } in
     let answer = c.in-Answered.answer in
     record {
-      sized = sized c.args.call answer self.labels c.args.relabelled c.if-is_ok.labels self.sized c.requires (leaves g c);
-      named = named means self.plan c.in-Answered.plan c.args.call answer self.labels c.args.relabelled c.if-is_ok.labels self.sized self.named c.requires c.in-Answered.ensures.performed.step (leaves g c);
+      sized = sized c.args.call answer self.labels c.args.relabelled labels self.sized c.requires (leaves g c);
+      named = named (state_of self) after c.args.call answer c.args.relabelled self.sized c.requires c.in-Answered.ensures.performed.step (leaves g c) self.named;
     }
 
 pub returns-after-is_ok : goal.returns-after-is_ok

@@ -7,5 +7,5 @@ pub invariant_of-result : goal.invariant_of-result
 invariant_of-result g c =
     record {
       sized = refl;
-      named = opened_named (shows g.F.Fabric.meaning false c.open.result).booked c.open.ensures.0.none_booked;
+      named = opened_named (shows g.F.Fabric.meaning false c.open.result) c.open.ensures.0;
     }

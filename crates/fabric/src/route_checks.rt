@@ -145,6 +145,7 @@ pub fn check(bytes: &[u8]) -> Result<ListSummary, FabricFault>
         passed: 0,
         at: ROUTES_AT,
     };
+    // a loop, since the reading is handed on from route to route and no number is used; `try_fold` over the numbers is no plainer
     for _ in 0..summary.routes {
         reading = reading.pass_route()?;
     }

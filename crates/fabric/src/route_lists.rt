@@ -65,8 +65,8 @@ impl Fabric for RouteList<'_> {
     }
 }
 
-// Whether the link is among those that the bytes name: it counts as crossed if one of these bytes equals it. The project
-// wants this told by a loop over the bytes of the part.
+// Whether the link is among those that the bytes name. It counts as crossed if one of these bytes equals it, and by a rule
+// of the project that is told by a loop over the bytes of the part.
 fn names(links: &[u8], link: u16) -> bool
     ensures { result ≡ among link links.now }
 {

@@ -43,6 +43,7 @@ impl Tree {
             if usize::from(*parent) >= child {
                 return Err(FabricFault::OutsideLimits);
             }
+            // proved to lose nothing; `try_from` would add a refusal that cannot happen
             copied.push(*parent as u8);
         }
         self.parents = copied;
@@ -71,12 +72,28 @@ impl Tree {
     }
 }
 
+/// The tree of such a description, as `fill` makes it, or its refusal.
+impl TryFrom<&[u16]> for Tree {
+    type Error = FabricFault;
+
+    ghost try_from_gives = { λ parents result. MatchResult result
+        (λ tree. TreeLawful parents.now × (tree.parents.items ≡ parents.now))
+        (λ fault. (TreeLawful parents.now → ⊥) × (numbered fault ≡ (2, []))) };
+
+    fn try_from(parents: &[u16]) -> Result<Tree, FabricFault> {
+        let mut tree = Tree::new();
+        tree.fill(parents)?;
+        Ok(tree)
+    }
+}
+
 impl Fabric for Tree {
     ghost meaning = { λ tree. tree_meaning tree.parents.items };
 
     ghost keeps = { λ tree. tree_keeps _ tree.lawful };
 
     fn terminals(&self) -> u16 {
+        // proved to lose nothing, as above
         self.parents.len() as u16 + 1
     }
 

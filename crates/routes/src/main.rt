@@ -71,13 +71,6 @@ fn report_with<F: Fabric + Drop>(
     report_on(rt, &pile, request.pairs.as_slice())
 }
 
-// The tree of these parents.
-fn grown(parents: &[u16]) -> Result<Tree, FabricFault> {
-    let mut tree = Tree::new();
-    tree.fill(parents)?;
-    Ok(tree)
-}
-
 // Tells what a route list has, or where it is refused, and goes on to the pairs.
 fn report_on_list(rt: &HostRuntime, bytes: &[u8], request: &Request) -> anyhow::Result<ExitCode> {
     match check(bytes) {
@@ -105,7 +98,7 @@ fn report_on_file(rt: &HostRuntime, file: &str, request: &Request) -> anyhow::Re
 fn report_on_request(rt: &HostRuntime, request: &Request) -> anyhow::Result<ExitCode> {
     match &request.description {
         Description::Line(terminals) => report_with(rt, Line::new(*terminals), request),
-        Description::Tree(parents) => report_with(rt, grown(parents.as_slice()), request),
+        Description::Tree(parents) => report_with(rt, Tree::try_from(parents.as_slice()), request),
         Description::List(file) => report_on_file(rt, file.as_str(), request),
     }
 }

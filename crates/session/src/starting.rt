@@ -18,11 +18,7 @@ pub(crate) fn build(line: &[u8]) -> Result<Built, ScriptFault>
 {
     match read_description(line).ok_or(ScriptFault::NoForm)? {
         Description::Line(terminals) => Ok(Built::Line(Line::new(terminals)?)),
-        Description::Tree(parents) => {
-            let mut tree = Tree::new();
-            tree.fill(parents.as_slice())?;
-            Ok(Built::Tree(tree))
-        }
+        Description::Tree(parents) => Ok(Built::Tree(Tree::try_from(parents.as_slice())?)),
         Description::LongTree => Err(ScriptFault::Fabric(FabricFault::OutsideLimits)),
     }
 }

@@ -80,10 +80,8 @@ fn line() -> anyhow::Result<Line> {
 }
 
 fn tree() -> anyhow::Result<Tree> {
-    let mut tree = Tree::new();
-    tree.fill(&[0, 0, 1, 1, 2, 4, 4, 2, 8])
-        .map_err(|_| anyhow!("the tree"))?;
-    Ok(tree)
+    let parents: &[u16] = &[0, 0, 1, 1, 2, 4, 4, 2, 8];
+    Tree::try_from(parents).map_err(|_| anyhow!("the tree"))
 }
 
 fn ring() -> anyhow::Result<RouteList<'static>> {

@@ -7,7 +7,8 @@ mod spelling;
 /// A name: 1 to 8 letters a to z. It is made by `Name::new` only, so every name is one.
 #[derive(Clone, Copy, Debug)]
 pub struct Name {
-    // an `ArrayVec` would not be `Copy`, as a label is; those that are not used are 0, so that a spelling is kept in one way only
+    // `ArrayString<8>` was tried: the borrow checker then covers no copy of an array of names, as a session keeps, from behind a
+    // reference, and no contract says that the unused bytes are 0; here they are, so that a spelling is kept in one way only
     letters: [u8; 8],
     count: u8,
     ghost few: { count ≤ 8 },

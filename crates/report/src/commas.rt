@@ -7,6 +7,8 @@ use std::alloc::{AllocError, Global};
 use std::fmt;
 
 /// A list of numbers that is shown with commas between them.
+// The script's lists are written by a function over any iterator, which asks that the iterator ends. Shared by two crates it
+// would be public, and no public function asks anything of its caller.
 #[derive(Clone, Copy, Debug)]
 pub struct Commas<'a>(pub &'a [u16]);
 

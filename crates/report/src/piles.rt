@@ -18,7 +18,8 @@ pub enum Pile<F: Fabric> {
 }
 
 impl<F: Fabric> Pile<F> {
-    // Whether the pair's ends are one terminal or have a route.
+    // Whether the pair's ends are one terminal or have a route. The spur has the same test of its own: to share one comparison
+    // and one question would be no plainer.
     fn reached(&self, pair: Pair) -> bool
         ensures { result ≡ reaches (pile_meaning F.Fabric.meaning self.now) pair }
     {

@@ -1,5 +1,5 @@
 //! The slots of a flow, as an answer tells them: ranges, each without its upper end.
-ghost use Rattle.std.specs.Prelude.{◌≡◌, ℕ, ◌<◌, ◌≤◌, false, length, All, Some, MatchOption, ◌≢◌, slice_index_or, ⊤};
+ghost use Rattle.std.specs.Prelude.{◌≡◌, ℕ, ◌<◌, ◌≤◌, false, length, Some, MatchOption, ◌≢◌, slice_index_or, ⊤};
 ghost use Rattle.std.specs.Iterator.{YieldsFirst, item_count};
 ghost use Rattle.script.specs.Ranges.{left, runs, range, ranges};
 

@@ -43,8 +43,8 @@ impl<F: Fabric + Drop> Session<F> {
         Ok(labels)
     }
 
-    // Books a flow under a label. The call is handed in made: for its constructor, as `C: Fn(u16, Flow) -> Call`, clauses would
-    // have to say that it may be called, what it can make, and of which of those calls the answer is.
+    // Books a flow under a label. Were the call's constructor passed, as `C: Fn(u16, Flow) -> Call`, three clauses would take the
+    // place of the one: that it may be called, what it can make, and to which call the answer is.
     fn book(self, call: Call, wanted: Wanted) -> (Self, Result<(), ScriptFault>)
         requires { (call ≡ Enrol wanted.number (flow_of wanted)) ⊎ (call ≡ Admit wanted.number (flow_of wanted)) }
         ensures { BooksLabelled (state_of self) call wanted result.1 (state_of result.0) }

@@ -20,6 +20,7 @@ pub fn find<L: Label>(entries: &[Option<L>], label: L) -> Result<Option<u8>, Lab
     let number = entries
         .iter()
         .position(|entry| entry.is_some_and(|held| held.is_same(&label)));
+    // no bits are lost: there are 64 entries
     Ok(number.map(|number| number as u8))
 }
 

@@ -18,6 +18,6 @@ impl Label for StreamNumber {
     ghost transitive = { Prim.search rules };
 
     fn is_same(&self, other: &StreamNumber) -> bool {
-        self.0 == other.0
+        self == other
     }
 }

@@ -1,16 +1,10 @@
 -- Runs of a row, as a walk along it finds them.
-use Rattle.std.proofs.Common.{◌≡◌, ℕ, zero, suc, ◌+◌, ◌-◌, ◌<◌, ◌≤◌, Bool, true, false, cond, eqb, List, [], ◌∷◌, length, get_or, drop, sym, refl, ap, ◌∙◌, subst, ⊎_elim, arith, length-drop, Some, None, Option, MatchOption}
-use Rattle.std.proofs.lemmas.List.{drop_all, drop_more, take_all, get_or-drop}
-use Rattle.std.specs.List.{slice_range}
+use Rattle.std.proofs.Common.{◌≡◌, ℕ, zero, suc, ◌+◌, ◌-◌, ◌<◌, ◌≤◌, Bool, true, false, cond, eqb, List, [], ◌∷◌, length, get_or, drop, sym, refl, ap, ◌∙◌, subst, ⊎_elim, arith, Some, None, Option, MatchOption}
+use Rattle.std.proofs.lemmas.List.{drop_all, drop_more}
 use Rattle.std.specs.Option.{unwrap_or}
 use Rattle.std.proofs.lemmas.Bool.{cases_Bool, cases_lt, true≢false, eq-eqb, ne_eqb}
 use Rattle.script.specs.declared.ranges.Run.{Run}
 use Rattle.script.specs.Ranges.{grown, runs_from}
-
--- what is left of a row from a place on
-pub rest_at : (row rest : List Bool) (from : ℕ) → rest ≡ slice_range row from (length row) → (k : ℕ) → get_or rest k false ≡ get_or row (from + k) false
-rest_at row rest from same k =
-    ap (λ l. get_or l k false) (same ∙ take_all (length row - from) (drop from row) (omega (arith, length-drop from row))) ∙ get_or-drop from row k false
 
 -- the first run begins there or later
 abbrev Later : ℕ → List Run → Type 0

@@ -1,5 +1,5 @@
 -- The parents of a tree, as a loop over the marks reads them.
-use Rattle.std.proofs.Common.{◌≡◌, ℕ, suc, ◌+◌, ◌<◌, ◌≤◌, List, [], ◌∷◌, ◌++◌, map, length, get_or, take, drop, set, codes, decimal, sym, refl, ap, ◌∙◌, subst, ⊎_elim, arith, length-drop, length-take}
+use Rattle.std.proofs.Common.{◌≡◌, ℕ, zero, suc, ◌+◌, ◌<◌, ◌≤◌, List, [], ◌∷◌, ◌++◌, map, length, replicate, get_or, take, drop, set, codes, decimal, sym, refl, ap, ◌∙◌, subst, ⊎_elim, arith, length-drop, length-take}
 use lib.ListN.{length-map}
 use Rattle.std.specs.List.{AllByRecursion}
 use Rattle.std.proofs.ByRecursion.{All-get_or, All-from_get_or, All-append}
@@ -21,18 +21,30 @@ use Rattle.script.proofs.KindWords.{apart}
 abbrev blank : Mark
 blank = record { kind = kinds.Name; from = 0; to = 0 }
 
--- the numbers at the first n marks stand in the room
+-- the numbers at the first n marks stand in the room, and 0 after them
 abbrev pub NumbersRead : List ℕ → List Mark → List ℕ → ℕ → Type 0
 NumbersRead line marks room n =
     (length room ≡ 127) × ((k : ℕ) → k < n → Short (get_or room k 0) × Stands line (get_or marks k blank) (decimal (get_or room k 0)))
+    × ((k : ℕ) → n ≤ k → get_or room k 0 ≡ 0)
+
+free_room : (m k : ℕ) → ◌≡◌ {A = ℕ} (get_or (replicate m 0) k 0) 0
+free_room zero k = refl
+free_room (suc m) zero = refl
+free_room (suc m) (suc k) = free_room m k
+
+pub none_read : (line : List ℕ) (marks : List Mark) → NumbersRead line marks (replicate 127 0) 0
+none_read line marks = (refl, λ k less. absurd (omega arith), λ k past. free_room 127 k)
 
 -- the number m stands at mark k
 abbrev Read : List ℕ → List Mark → ℕ → ℕ → Type 0
 Read line marks k m = Short m × Stands line (get_or marks k blank) (decimal m)
 
 pub one_more : (line : List ℕ) (marks : List Mark) (room : List ℕ) (n number : ℕ) → n < 127 → NumbersRead line marks room n → Short number → Stands line (get_or marks n blank) (decimal number) → NumbersRead line marks (set room n number) (n + 1)
-one_more line marks room n number fits (wide, read) short here =
-    (omega (arith, length-set room n number), λ k less. ⊎_elim (at_n k) (before k less) (cases_eq k n))
+one_more line marks room n number fits (wide, read, free) short here = (
+  omega (arith, length-set room n number),
+  λ k less. ⊎_elim (at_n k) (before k less) (cases_eq k n),
+  λ k past. get_or-set_other room n k number 0 (λ same. omega (arith, same)) ∙ free k (omega arith),
+)
   where
     at_n : (k : ℕ) → k ≡ n → Read line marks k (get_or (set room n number) k 0)
     at_n k same =

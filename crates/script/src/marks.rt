@@ -6,8 +6,10 @@ mod marking;
 
 pub(crate) use marking::{mark_line, word_at};
 
-/// Where a word stands in its line, from its first byte up to the byte after its last, and of what kind it is. A mark refers
-/// to nothing, so it is copied freely; `word_at` hands out the word.
+/// Where a word stands in its line, from its first byte up to the byte after its last, and of what kind it is; `word_at` hands
+/// out the word.
+// Places and no references, by a rule of the project: a line's words are first marked, by kind and place, and a mark refers to
+// nothing. So marks are plain values in fixed memory, copied freely and tied to no line.
 #[derive(Clone, Copy, PartialEq, Eq, Debug, Default)]
 pub(crate) struct Mark {
     pub(crate) kind: Kind,

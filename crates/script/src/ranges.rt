@@ -1,5 +1,5 @@
 //! The slots of a flow, as an answer tells them: ranges, each without its upper end.
-ghost use Rattle.std.specs.Prelude.{◌≡◌, ℕ, ◌<◌, ◌≤◌, false, length, All, Some, MatchOption, ◌≢◌, slice_index_or, ⊤};
+ghost use Rattle.std.specs.Prelude.{◌≡◌, ℕ, ◌<◌, ◌≤◌, false, length, Some, MatchOption, ◌≢◌, slice_index_or, ⊤};
 ghost use Rattle.std.specs.Iterator.{YieldsFirst, item_count};
 ghost use Rattle.script.specs.Ranges.{left, runs, range, ranges};
 
@@ -45,18 +45,7 @@ impl Iterator for Runs<'_> {
     }
 }
 
-// The first place of the row that is held, or that is not.
-fn first_place(row: &[bool], held: bool) -> Option<usize>
-    ensures { MatchOption result
-        (All (λ slot. slot ≢ held) row.now)
-        (λ place. (place < length row.now)
-        × ((k : ℕ) → k < place → slice_index_or row.now k false ≢ held)
-        × (slice_index_or row.now place false ≡ held)) }
-{
-    row.iter().position(|slot| *slot == held)
-}
-
-// The same from a place on.
+// The first place of the row, from a place on, that is held, or that is not.
 fn next_place(row: &[bool], from: usize, held: bool) -> Option<usize>
     ensures { MatchOption result
         ((k : ℕ) → from ≤ k → k < length row.now → slice_index_or row.now k false ≢ held)
@@ -64,8 +53,7 @@ fn next_place(row: &[bool], from: usize, held: bool) -> Option<usize>
         × ((k : ℕ) → from ≤ k → k < place → slice_index_or row.now k false ≢ held)
         × (slice_index_or row.now place false ≡ held)) }
 {
-    let ahead = first_place(row.get(from..)?, held)?;
-    Some(from + ahead)
+    (from..row.len()).find(|place| row[*place] == held)
 }
 
 /// The slots that the row holds, as `0-3,7-8`; `-` where it holds none.

@@ -8,6 +8,7 @@ use labels::names::Name;
 /// What a word is.
 #[derive(Clone, Copy, PartialEq, Eq, Debug, Default)]
 pub(crate) enum Kind {
+    // which kind is the default says nothing: `ArrayVec::new` wants one, for the places of its room that are not used
     #[default]
     Name,
     Number,

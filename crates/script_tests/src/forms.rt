@@ -66,17 +66,23 @@ fn flow_of_a_command(rt: HostRuntime) {
     );
 }
 
-// How many parents a tree is described with; 128 stands for more than 127.
-fn parents_of(line: &[u8]) -> Option<usize> {
+// How many parents a tree is described with.
+#[derive(Clone, Copy, PartialEq, Eq, Debug)]
+enum Parents {
+    Kept(usize),
+    TooMany,
+}
+
+fn parents_of(line: &[u8]) -> Option<Parents> {
     match read_description(line)? {
-        Description::Tree(parents) => Some(parents.as_slice().len()),
-        Description::LongTree => Some(128),
+        Description::Tree(parents) => Some(Parents::Kept(parents.as_slice().len())),
+        Description::LongTree => Some(Parents::TooMany),
         Description::Line(_) => None,
     }
 }
 
 // The same, of so many zeros after `tree`.
-fn parents_of_zeros(count: usize) -> Option<usize> {
+fn parents_of_zeros(count: usize) -> Option<Parents> {
     let line: [u8; 300] = array::from_fn(|at| match b"tree".get(at) {
         Some(letter) => *letter,
         None if at % 2 == 0 => b' ',
@@ -90,10 +96,10 @@ fn parents_of_zeros(count: usize) -> Option<usize> {
 
 #[test]
 fn descriptions(rt: HostRuntime) {
-    assert_eq!(rt; parents_of(b"tree 0 0 1 65535"), Some(4));
-    assert_eq!(rt; parents_of_zeros(0), Some(0));
-    assert_eq!(rt; parents_of_zeros(127), Some(127));
-    assert_eq!(rt; parents_of_zeros(128), Some(128));
+    assert_eq!(rt; parents_of(b"tree 0 0 1 65535"), Some(Parents::Kept(4)));
+    assert_eq!(rt; parents_of_zeros(0), Some(Parents::Kept(0)));
+    assert_eq!(rt; parents_of_zeros(127), Some(Parents::Kept(127)));
+    assert_eq!(rt; parents_of_zeros(128), Some(Parents::TooMany));
     assert_eq!(rt; parents_of(b"tree 0 a"), None);
     assert_eq!(rt; parents_of(b"tree "), None);
     assert_eq!(rt; parents_of(b"line 8"), None);

@@ -16,6 +16,8 @@ use planner::periods::Period;
 use planner::plans::Plan;
 
 /// Whether the state allows the call.
+// The planner's `perform` refuses the same calls, but only once it has the plan. A label is checked between the state and the plan,
+// and a plan that has taken a call cannot give it back, so the state is asked here first.
 pub(crate) fn allows(running: bool, call: Call) -> bool
     ensures { result ≡ allowed running call }
 {

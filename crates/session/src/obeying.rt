@@ -29,6 +29,7 @@ fn flow_of(wanted: Wanted) -> Flow
     }
 }
 
+// Where a line is refused before a call is made, the session goes back beside the answer: a call takes the plan by value.
 impl<F: Fabric + Drop> Session<F> {
     // The labels with the one that is wanted, where the state allows the call and the label may be bound.
     fn labels_with(&self, call: Call, wanted: Wanted) -> Result<[Option<Name>; 64], ScriptFault>
@@ -42,7 +43,8 @@ impl<F: Fabric + Drop> Session<F> {
         Ok(labels)
     }
 
-    // Books a flow under a label.
+    // Books a flow under a label. Were the call's constructor passed, as `C: Fn(u16, Flow) -> Call`, three clauses would take the
+    // place of the one: that it may be called, what it can make, and to which call the answer is.
     fn book(self, call: Call, wanted: Wanted) -> (Self, Result<(), ScriptFault>)
         requires { (call ≡ Enrol wanted.number (flow_of wanted)) ⊎ (call ≡ Admit wanted.number (flow_of wanted)) }
         ensures { BooksLabelled (state_of self) call wanted result.1 (state_of result.0) }

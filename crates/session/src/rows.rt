@@ -11,6 +11,7 @@ use std::array;
 pub(crate) fn group_row(group: FlowSet) -> [bool; 64]
     ensures { result ≡ group_row group }
 {
+    // no bits are lost: there are 64 flows
     array::from_fn(|flow| group.contains_flow(flow as u16))
 }
 
@@ -18,5 +19,6 @@ pub(crate) fn group_row(group: FlowSet) -> [bool; 64]
 pub(crate) fn slot_row<Q: Questions>(plan: &Q, number: u16) -> [bool; 255]
     ensures { result ≡ map ((Q.shown plan.now).holds number) (range_with_len 0 255) }
 {
+    // no bits are lost: there are 255 slots
     array::from_fn(|slot| plan.holds(number, slot as u16))
 }

@@ -16,8 +16,8 @@ use script::commands::{Command, read_command};
 use script::lines::Lines;
 use std::alloc::Global;
 
-// How many bytes a script may have.
-const LIMIT: usize = 16_384;
+/// How many bytes a script may have.
+pub const LIMIT: usize = 16_384;
 
 impl<P: Printer> Teller<'_, P> {
     // Obeys a command, and prints what it is told.

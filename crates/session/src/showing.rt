@@ -15,7 +15,7 @@ use script::ranges::Ranges;
 use std::fmt;
 
 // A booked flow, as `show` tells it.
-#[derive(Clone, Copy)]
+#[derive(Clone, Copy, PartialEq, Eq, Debug)]
 struct FlowLine<'a> {
     name: Name,
     number: u16,
@@ -48,6 +48,7 @@ impl<F: Fabric + Drop> Session<F> {
         // every booked flow has a label, and no other
         for (at, label) in self.labels.iter().enumerate() {
             if let Some(name) = label {
+                // no bits are lost: there are 64 labels
                 let number = at as u16;
                 let row = slot_row(&self.plan, number);
                 teller.tell(&FlowLine {

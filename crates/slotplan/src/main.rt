@@ -2,13 +2,13 @@
 #![tactic(auto)]
 
 use session::printers::{Printer, Unprinted};
-use session::running::run_script;
+use session::running::{LIMIT, run_script};
 use std::io;
 use std::io::Read;
 use std::process::ExitCode;
 
 // One byte more than a script may have: a longer one is refused as a whole, whatever follows.
-const ENOUGH: u64 = 16_385;
+const ENOUGH: u64 = LIMIT as u64 + 1;
 
 // Standard output. What is printed is outside of what a contract can say.
 #[derive(Drop)]
@@ -24,7 +24,8 @@ impl Printer for Screen<'_> {
     }
 }
 
-// Reads until the input ends or there is enough of it.
+// Reads until the input ends or there is enough of it. The program may allocate, unlike the planner: where there is no memory for
+// the script, it is told that it cannot be read.
 fn read_script(rt: &HostRuntime) -> io::Result<Vec<u8>> {
     let mut script = Vec::new(rt.alloc());
     rt.stdin().take(ENOUGH).read_to_end(&mut script)?;

@@ -1,5 +1,5 @@
 //! How a name is made of bytes, read again and compared.
-ghost use Rattle.std.specs.Prelude.{◌≡◌, ℕ, ◌<◌, Decides, MatchBool, MatchOption, Some, refl, slice_index};
+ghost use Rattle.std.specs.Prelude.{◌≡◌, ℕ, ◌<◌, Decides, MatchOption, Some, refl, slice_index};
 ghost use Rattle.std.proofs.Common.{sym, ◌∙◌, rules, arith};
 ghost use Rattle.std.specs.Str.{bytes_eq};
 ghost use Rattle.labels.specs.Names.{spelled};
@@ -15,7 +15,7 @@ use std::{array, fmt};
 
 // Whether the bytes are 1 to 8 letters a to z.
 fn is_spelling(bytes: &[u8]) -> bool
-    ensures { MatchBool result (Spelling bytes.now) (Spelling bytes.now → ⊥) }
+    ensures { Decides result (Spelling bytes.now) }
 {
     (1..=8).contains(&bytes.len()) && bytes.iter().all(|byte| matches!(byte, b'a'..=b'z'))
 }
@@ -37,6 +37,7 @@ impl Name {
         }
         Some(Name {
             letters: filled_up(bytes),
+            // no bits are lost: a spelling has at most 8 bytes
             count: bytes.len() as u8,
         })
     }
@@ -46,7 +47,7 @@ impl Name {
         ensures value { result.now ≡ spelled self.now }
         ensures lawful { Spelling result.now }
     {
-        &self.letters[0..self.count as usize]
+        &self.letters[..usize::from(self.count)]
     }
 }
 
@@ -56,6 +57,7 @@ impl fmt::Display for Name {
     fn fmt<W: fmt::Write>(&self, f: &mut fmt::Formatter<W>) -> fmt::Result {
         match std::str::from_utf8(self.as_bytes()) {
             Ok(letters) => f.pad(letters),
+            // letters a to z are UTF-8, and every name is proved to be of these
             Err(_) => unreachable(),
         }
     }

@@ -26,6 +26,7 @@ fn read_tree(line: &[u8], arguments: &[Mark], beyond: Beyond) -> Option<Descript
         (λ tree. (words : List (List ℕ)) → After line.now arguments.now beyond words → Described tree (verb_word Verb.Tree ∷ words)) }
 {
     let mut room = [0; 127];
+    // `room.iter_mut().zip(arguments)` was tried: what it wrote is not known to a proof, neither in the loop nor after it
     for (at, mark) in arguments.iter().enumerate() {
         room[at] = argument_at(line, *mark)?;
     }

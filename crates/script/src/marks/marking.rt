@@ -18,7 +18,7 @@ pub(crate) fn word_at<'a>(line: &'a [u8], mark: Mark) -> Option<Word<'a>>
 }
 
 impl Beyond {
-    // With one word more.
+    // A name keeps the line from being a tree, whatever numbers stand beside it.
     fn and(self, kind: Kind) -> Beyond
         ensures { (words : List (List ℕ)) (word : List ℕ) → Past self words → OfKind kind word → Past result (words ++ word ∷ []) }
     {
@@ -33,8 +33,8 @@ impl Beyond {
 }
 
 impl Marks {
-    // Of no word.
-    fn none() -> Marks
+    // Those of a line whose words are still to be read.
+    fn new() -> Marks
         ensures { (line : List ℕ) → Marked line result [] }
     {
         Marks {
@@ -43,7 +43,8 @@ impl Marks {
         }
     }
 
-    // One word more is marked, in whatever line.
+    // Past the first 128 words no mark is kept, only what a form can still be told by. The line is the caller's to name: a mark
+    // refers to none.
     fn push(&mut self, mark: Mark)
         ensures { (line : List ℕ) (words : List (List ℕ)) (word : List ℕ) → Marked line self.old words → Stands line mark word → Marked line self.new (words ++ word ∷ []) }
     {
@@ -73,7 +74,7 @@ pub(crate) fn mark_line(line: &[u8]) -> Option<Marks>
         (AllByRecursion IsWord (parts line.now) → ⊥)
         (λ marks. Marked line.now marks (parts line.now)) }
 {
-    let mut marks = Marks::none();
+    let mut marks = Marks::new();
     let mut from = 0;
     for part in line.split(|byte| *byte == b' ') {
         let to = from + part.len();

@@ -1,11 +1,14 @@
 use Rattle.std.proofs.Common.{arith}
-use Rattle.script.proofs.TreeWords.{one_more, no_number, no_tree, short_tree, long_tree}
+use Rattle.script.proofs.TreeWords.{none_read, one_more, no_number, no_tree, short_tree, long_tree}
 use Rattle.script.proofs.descriptions.reading.read_tree.Goals as goal
 
 pub returns-in_err-room : goal.returns-in_err-room
 returns-in_err-room c =
     rw c.from_residual.ensures
     (no_number c.args.line.now c.args.arguments.now c.args.beyond c.requires c.loop-at.at c.loop-at-test.true c.in_err-room.ensures)
+
+pub loop-at-init : goal.loop-at-init
+loop-at-init c = none_read c.args.line.now c.args.arguments.now
 
 pub loop-at-preserved : goal.loop-at-preserved
 loop-at-preserved c =

@@ -52,8 +52,8 @@ loop-flows-preserved c =
     -- the flow is not of `beside`, so the valid slots are what they were
     let same : free u 64 k ≡ p = free_same u t 64 k (λ g in'. fun_ext (λ s. so.others g s (tells_apart k g c.args.request.flow.number in' c.args.request.not_beside))) in
     let here : p m ≡ not c.intersects.result =
-        ap (λ q. q m) (sym same) ∙ ap (λ (x : FlowSet). free (λ g _. members x g) 64 k 0) row
-        ∙ sym (ap not (taken_is (λ g _. members (get_or items m (record { 0 = 0 })) g) 64 k 0 c.intersects.result c.intersects.ensures)) in
+    ap (λ q. q m) (sym same) ∙ ap (λ (x : FlowSet). free (λ g _. members x g) 64 k 0) row
+    ∙ sym (ap not (taken_is (λ g _. members (get_or items m (record { 0 = 0 })) g) 64 k 0 c.intersects.result c.intersects.ensures)) in
     elim c.if-not-intersects.branch [
       | then-not-intersects w ↦
           let before : c.loop-flows.left ≡ c.if-not-intersects.left + 1 = omega arith in

@@ -124,8 +124,8 @@ mod tests {
         let Ok(table) = placed(2) else {
             return Err(Fail::new("the flows have a placing"));
         };
-        for (flow, held) in (0..12u8).zip(HELD) {
-            for slot in 0..8u8 {
+        for (flow, held) in (0..12u16).zip(HELD) {
+            for slot in 0..8u16 {
                 assert_eq!(rt; table.holds_slot(flow, slot), (held >> slot) & 1 == 1);
             }
         }

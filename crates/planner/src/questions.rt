@@ -94,9 +94,6 @@ impl<F: Fabric, S> Questions for Plan<F, S> {
     }
 
     fn holds(&self, number: u16, slot: u16) -> bool {
-        let (Ok(number), Ok(slot)) = (u8::try_from(number), u8::try_from(slot)) else {
-            return false;
-        };
         self.table.holds_slot(number, slot)
     }
 

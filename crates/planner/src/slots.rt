@@ -26,12 +26,12 @@ impl SlotTable {
     }
 
     /// Whether a flow holds a slot; false past the last flow and the last slot.
-    pub fn holds_slot(&self, flow: u8, slot: u8) -> bool
+    pub fn holds_slot(&self, flow: u16, slot: u16) -> bool
         ensures { result ≡ holds self.now flow slot }
     {
         self.slots
             .get(usize::from(slot))
-            .is_some_and(|flows| flows.contains_flow(u16::from(flow)))
+            .is_some_and(|flows| flows.contains_flow(flow))
     }
 
     /// The flow gives up all its slots.

@@ -107,6 +107,7 @@ fn flows_that<T: Fn(FlowNumber) -> bool>(test: T) -> FlowSet
     ensures others { (n : ℕ) → 64 ≤ n → members result n ≡ false }
 {
     let mut flows = FlowSet::empty();
+    // by number: tried `(0..64).map_while(FlowNumber::new)`, whose loop the check does not admit beside a test of any type
     for number in 0..64 {
         let flow = FlowNumber { number };
         if test(flow) {

@@ -38,6 +38,7 @@ impl FlowSet {
     pub(crate) fn remove(&mut self, flow: FlowNumber)
         ensures { (k : ℕ) → members self.new k ≡ (if nat_eq k flow.number then false else members self.old k) }
     {
+        // read first: after `&=` alone the proof did not close, since that the number is one of 64 bits is known of what is read
         let flows = self.0;
         self.0 = flows & !(1u64 << flow.number);
     }
@@ -50,6 +51,7 @@ impl FlowSet {
             return None;
         }
         let highest = FlowNumber {
+            // at most 63, which a u8 holds
             number: (63 - self.0.leading_zeros()) as u8,
         };
         self.remove(highest);
@@ -100,8 +102,7 @@ impl FlowSet {
     pub fn bits(self) -> u64
         ensures { (k : ℕ) → bit result k ≡ members self k }
     {
-        let FlowSet(bits) = self;
-        bits
+        self.0
     }
 }
 

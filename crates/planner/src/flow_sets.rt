@@ -69,7 +69,7 @@ impl FlowSet {
     pub(crate) fn intersects(self, other: FlowSet) -> bool
         ensures { Decides result ((k : ℕ) × (k < 64) × (members self k ≡ true) × (members other k ≡ true)) }
     {
-        self.0 & other.0 != 0
+        meet(self.0, other.0)
     }
 
     /// The flows that are in both sets.
@@ -104,6 +104,13 @@ impl FlowSet {
     {
         self.0
     }
+}
+
+/// Whether two words have a bit in common.
+pub(crate) fn meet(mine: u64, theirs: u64) -> bool
+    ensures { Decides result ((n : ℕ) × (n < 64) × (bit mine n ≡ true) × (bit theirs n ≡ true)) }
+{
+    mine & theirs != 0
 }
 
 /// Takes a flow out of every one of the sets.

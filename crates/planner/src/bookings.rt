@@ -14,6 +14,7 @@ pub struct Booking {
 /// What is booked under each number.
 #[derive(Clone, Copy, PartialEq, Eq, Debug)]
 pub struct Bookings {
+    // a place for each number, since the planner allocates nothing
     pub(crate) entries: [Option<Booking>; 64],
     ghost sized: { length entries ≡ 64 },
 }

@@ -11,6 +11,7 @@ use crate::slot_requests::{SlotRequest, TooFew};
 /// For each slot the flows that hold it, so that one AND tells whether a slot is valid.
 #[derive(Clone, Copy, PartialEq, Eq, Debug)]
 pub struct SlotTable {
+    // a row for each slot of the longest period, since the planner allocates nothing
     slots: [FlowSet; 255],
 }
 

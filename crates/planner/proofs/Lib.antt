@@ -20,6 +20,7 @@ pub mod Swept
 pub mod Memory
 pub mod Checks
 pub mod Admitting
+pub mod FromFn
 pub mod SameLoad
 pub mod Replanning
 pub mod Parts

@@ -10,6 +10,7 @@ use crate::flow_numbers::FlowNumber;
 use crate::flow_sets::FlowSet;
 use crate::link_sets::LinkSet;
 use crate::overlaps::Overlaps;
+use std::array;
 
 impl Bookings {
     /// Nothing is booked.
@@ -88,10 +89,13 @@ impl Bookings {
     pub(crate) fn overlaps(&self) -> Overlaps
         ensures { (f g : ℕ) → overlapping result.groups f g ≡ overlap_of (λ n. kept_route (booking_at self.now n)) f g }
     {
-        let mut groups = [FlowSet::empty(); 64];
-        for (n, group) in groups.iter_mut().enumerate() {
-            *group = self.beside(FlowNumber { number: n as u8 });
-        }
+        // the array asks for numbers below 64 alone, so the cast loses nothing
+        let groups = array::from_fn(
+            |n|
+                requires { n < 64 }
+                ensures { (g : ℕ) → members result g ≡ overlap_of (λ k. kept_route (booking_at self.entry.now k)) n g }
+            { self.beside(FlowNumber { number: n as u8 }) },
+        );
         Overlaps { groups }
     }
 }
@@ -103,6 +107,7 @@ fn flows_that<T: Fn(FlowNumber) -> bool>(test: T) -> FlowSet
     ensures others { (n : ℕ) → 64 ≤ n → members result n ≡ false }
 {
     let mut flows = FlowSet::empty();
+    // by number: tried `(0..64).map_while(FlowNumber::new)`, whose loop the check does not admit beside a test of any type
     for number in 0..64 {
         let flow = FlowNumber { number };
         if test(flow) {

@@ -13,7 +13,9 @@ impl FlowNumber {
     pub fn new(number: u16) -> Option<FlowNumber>
         ensures { MatchOption result (64 ≤ number) (λ flow. flow.number ≡ number) }
     {
+        // an `if`: in `(number < 64).then(..)` the closure does not know the test, so the proof that it makes a flow's number did not close
         if number < 64 {
+            // below 64, so the cast loses nothing
             Some(FlowNumber {
                 number: number as u8,
             })

@@ -38,6 +38,7 @@ impl FlowSet {
     pub(crate) fn remove(&mut self, flow: FlowNumber)
         ensures { (k : ℕ) → members self.new k ≡ (if nat_eq k flow.number then false else members self.old k) }
     {
+        // read first: after `&=` alone the proof did not close, since that the number is one of 64 bits is known of what is read
         let flows = self.0;
         self.0 = flows & !(1u64 << flow.number);
     }
@@ -50,6 +51,7 @@ impl FlowSet {
             return None;
         }
         let highest = FlowNumber {
+            // at most 63, which a u8 holds
             number: (63 - self.0.leading_zeros()) as u8,
         };
         self.remove(highest);
@@ -67,7 +69,7 @@ impl FlowSet {
     pub(crate) fn intersects(self, other: FlowSet) -> bool
         ensures { Decides result ((k : ℕ) × (k < 64) × (members self k ≡ true) × (members other k ≡ true)) }
     {
-        self.0 & other.0 != 0
+        meet(self.0, other.0)
     }
 
     /// The flows that are in both sets.
@@ -100,9 +102,15 @@ impl FlowSet {
     pub fn bits(self) -> u64
         ensures { (k : ℕ) → bit result k ≡ members self k }
     {
-        let FlowSet(bits) = self;
-        bits
+        self.0
     }
+}
+
+/// Whether two words have a bit in common.
+pub(crate) fn meet(mine: u64, theirs: u64) -> bool
+    ensures { Decides result ((n : ℕ) × (n < 64) × (bit mine n ≡ true) × (bit theirs n ≡ true)) }
+{
+    mine & theirs != 0
 }
 
 /// Takes a flow out of every one of the sets.

@@ -1,12 +1,14 @@
 //! Sets of links, one bit each: the route of a flow, asked of its fabric once and kept.
-ghost use Rattle.std.specs.Prelude.{◌≡◌, ℕ, ◌<◌, Bool, true, false, if◌then◌else◌, Decides, nat_eq};
-ghost use Rattle.planner.specs.FlowSets.{bit};
+ghost use Rattle.std.specs.Prelude.{◌≡◌, ℕ, ◌<◌, true, false, if◌then◌else◌, Decides, nat_eq};
 ghost use Rattle.planner.specs.LinkSets.{crossing, share};
 
+use crate::flow_sets::meet;
 use fabric::Fabric;
 use fabric::pairs::Pair;
 
 /// A set of links, numbered 0 to 255.
+// Not one type with FlowSet, over a number of words: its members would be told by word and place, as the links are here,
+// and `members` in specs/ would be no longer the plain bit of one number.
 #[derive(Clone, Copy, PartialEq, Eq, Debug)]
 pub struct LinkSet {
     words: [u64; 4],
@@ -52,11 +54,4 @@ impl LinkSet {
             .zip(&other.words)
             .any(|(mine, theirs)| meet(*mine, *theirs))
     }
-}
-
-/// Whether two words have a bit in common.
-fn meet(mine: u64, theirs: u64) -> bool
-    ensures { Decides result ((n : ℕ) × (n < 64) × (bit mine n ≡ true) × (bit theirs n ≡ true)) }
-{
-    mine & theirs != 0
 }

@@ -23,6 +23,7 @@ impl Period {
     pub fn new(slots: u16) -> Result<Period, PlanFault>
         ensures { MatchResult result (λ period. period.slots ≡ slots) (λ fault. ((1 ≤ slots) × (slots ≤ 255) → ⊥) × (numbered fault ≡ (1, []))) }
     {
+        // a match: after `filter` the closure of `map` does not know the test, so the proof that the period has a slot did not close
         match u8::try_from(slots) {
             Ok(slots @ 1..) => Ok(Period { slots }),
             _ => Err(PlanFault::BadPeriod),
@@ -91,7 +92,7 @@ impl<F: Fabric> Plan<F, Running> {
 }
 
 impl<F: Fabric, S> Plan<F, S> {
-    // The same plan in another state. Its type is another, so that it is taken apart and made anew: `..self` gives the same type.
+    // The same plan in another state. Its type is another, so it is taken apart and made anew: `..self` gives the same type.
     fn in_state<T>(self) -> Plan<F, T>
         ensures { (result.fabric ≡ self.fabric) × (result.period ≡ self.period) × (result.bookings ≡ self.bookings) × (result.table ≡ self.table) }
     {

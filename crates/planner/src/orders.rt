@@ -66,6 +66,7 @@ pub(crate) fn last_of(flows: FlowSet, overlaps: &Overlaps) -> Option<FlowNumber>
     ensures { MatchOption result ((f : ℕ) → MayComeLast (overlapping overlaps.now.groups) (members flows) f → ⊥) (λ flow. ChosenLast (overlapping overlaps.now.groups) (members flows) flow.number) }
 {
     let mut candidates = flows;
+    // the rule by which an order is chosen: from the highest number down, left at the first flow that may come last
     'search: loop {
         let flow = candidates.take_highest()?;
         let beside = overlaps.group(flow).intersection(flows);

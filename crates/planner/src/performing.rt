@@ -26,6 +26,7 @@ pub fn perform<F: Fabric>(plan: AnyPlan<F>, call: Call) -> Outcome<F>
     }
 }
 
+// One function for each state: the plans are of two types, and each allows other calls.
 fn perform_resting<F: Fabric>(mut plan: Plan<F, Resting>, call: Call) -> Outcome<F>
     ensures performed { Performed F.Fabric.meaning (AtRest plan) call result }
     ensures fitted { FitsAlone call result }

@@ -62,6 +62,7 @@ mod tests {
 
     const DEMANDS: [u16; 12] = [0, 2, 2, 3, 1, 6, 7, 7, 1, 4, 4, 4];
 
+    // written out: of the numbers under `map` it is not proved that each is below 64 and that none stands twice
     const ORDER: [FlowNumber; 11] = [
         FlowNumber { number: 11 },
         FlowNumber { number: 10 },
@@ -97,7 +98,7 @@ mod tests {
         // two flows at a time, each asked for by its number
         for one in 1..12u8 {
             for other in 1..one {
-                if CROSSES[one as usize] & CROSSES[other as usize] != 0 {
+                if CROSSES[usize::from(one)] & CROSSES[usize::from(other)] != 0 {
                     overlaps.join(FlowNumber { number: one }, FlowNumber { number: other });
                 }
             }
@@ -124,8 +125,8 @@ mod tests {
         let Ok(table) = placed(2) else {
             return Err(Fail::new("the flows have a placing"));
         };
-        for (flow, held) in (0..12u8).zip(HELD) {
-            for slot in 0..8u8 {
+        for (flow, held) in (0..12u16).zip(HELD) {
+            for slot in 0..8u16 {
                 assert_eq!(rt; table.holds_slot(flow, slot), (held >> slot) & 1 == 1);
             }
         }

@@ -52,6 +52,7 @@ impl PlanFault {
     }
 }
 
+// By hand, here and below, since contracts name the fault that a `?` makes, which `from_gives` tells them.
 /// The refusal of a plan whose flows are not placed.
 impl From<Unplaced> for PlanFault {
     ghost from_gives = { λ unplaced fault. fault ≡ fault_of unplaced };

@@ -42,7 +42,7 @@ pub trait Questions {
     fn wait(&self, number: u16) -> u8
         ensures { Wait ((shown self.now).holds number) (shown self.now).period result }
     {
-        // a loop, since two values are carried on from slot to slot; a fold over both reads no plainer
+        // a loop that carries the last slot on: the slots beside themselves with `skip(1)` would ask the plan of each slot twice
         let mut wait = 0;
         let mut last = None;
         for slot in 0..self.period() {
@@ -94,9 +94,6 @@ impl<F: Fabric, S> Questions for Plan<F, S> {
     }
 
     fn holds(&self, number: u16, slot: u16) -> bool {
-        let (Ok(number), Ok(slot)) = (u8::try_from(number), u8::try_from(slot)) else {
-            return false;
-        };
         self.table.holds_slot(number, slot)
     }
 

@@ -6,7 +6,7 @@ use crate::flow_numbers::FlowNumber;
 use crate::flow_sets::FlowSet;
 
 /// A flow asks for so many slots of a period, none of them held by a flow of `beside`. It is not of `beside` itself.
-#[derive(Clone, Copy)]
+#[derive(Clone, Copy, PartialEq, Eq, Debug)]
 pub(crate) struct SlotRequest {
     pub(crate) flow: FlowNumber,
     pub(crate) beside: FlowSet,

@@ -1,5 +1,5 @@
 //! The table of slots: which flow holds which slot. Contracts speak only of what a flow holds.
-ghost use Rattle.std.specs.Prelude.{◌≡◌, ℕ, ◌<◌, ◌≤◌, true, false, ◌&&◌, if◌then◌else◌, ◌==◌, nat_eq, MatchResult};
+ghost use Rattle.std.specs.Prelude.{◌≡◌, ℕ, ◌<◌, ◌≤◌, false, if◌then◌else◌, nat_eq, MatchResult};
 ghost use Rattle.planner.specs.FlowSets.{members};
 ghost use Rattle.planner.specs.Slots.{count, free, Given};
 ghost use Rattle.planner.specs.Tables.{holds};
@@ -11,6 +11,7 @@ use crate::slot_requests::{SlotRequest, TooFew};
 /// For each slot the flows that hold it, so that one AND tells whether a slot is valid.
 #[derive(Clone, Copy, PartialEq, Eq, Debug)]
 pub struct SlotTable {
+    // a row for each slot of the longest period, since the planner allocates nothing
     slots: [FlowSet; 255],
 }
 
@@ -26,12 +27,12 @@ impl SlotTable {
     }
 
     /// Whether a flow holds a slot; false past the last flow and the last slot.
-    pub fn holds_slot(&self, flow: u8, slot: u8) -> bool
+    pub fn holds_slot(&self, flow: u16, slot: u16) -> bool
         ensures { result ≡ holds self.now flow slot }
     {
         self.slots
             .get(usize::from(slot))
-            .is_some_and(|flows| flows.contains_flow(u16::from(flow)))
+            .is_some_and(|flows| flows.contains_flow(flow))
     }
 
     /// The flow gives up all its slots.
@@ -41,20 +42,14 @@ impl SlotTable {
         remove_from_all(&mut self.slots, flow);
     }
 
-    /// Whether no flow of `beside` holds the slot.
-    pub(crate) fn is_valid(&self, slot: u8, beside: FlowSet) -> bool
-        requires { slot < 255 }
-        ensures { result ≡ free (holds self.now) 64 (members beside) slot }
-    {
-        !self.slots[usize::from(slot)].intersects(beside)
-    }
-
     /// How many slots of the period no flow of `beside` holds.
     fn valid_count(&self, beside: FlowSet, period: u8) -> usize
         ensures { result ≡ count (free (holds self.now) 64 (members beside)) period }
     {
-        (0..period)
-            .filter(|slot| self.is_valid(*slot, beside))
+        self.slots
+            .iter()
+            .take(usize::from(period))
+            .filter(|flows| !flows.intersects(beside))
             .count()
     }
 
@@ -79,23 +74,14 @@ impl SlotTable {
         ensures { Given (holds self.old) (holds self.new) 64 request.flow.number (members request.beside) request.demand request.period }
     {
         let mut left = request.demand;
-        // by number, since the table is asked and marked in turn, and an iterator over it would keep it borrowed
-        for slot in 0..request.period {
+        for flows in self.slots[..usize::from(request.period)].iter_mut() {
             if left == 0 {
-                return;
+                break;
             }
-            if self.is_valid(slot, request.beside) {
-                self.mark(request.flow, slot);
+            if !flows.intersects(request.beside) {
+                flows.insert(request.flow);
                 left -= 1;
             }
         }
-    }
-
-    /// The flow takes the slot.
-    fn mark(&mut self, flow: FlowNumber, slot: u8)
-        requires { slot < 255 }
-        ensures { (f s : ℕ) → holds self.new f s ≡ (if nat_eq f flow.number && s == slot then true else holds self.old f s) }
-    {
-        self.slots[usize::from(slot)].insert(flow);
     }
 }

@@ -1,4 +1,4 @@
-use Rattle.std.proofs.Common.{◌≡◌, ℕ, ◌<◌, eqb, not, List, length, sym, refl, ap, ◌∙◌, arith}
+use Rattle.std.proofs.Common.{◌≡◌, ℕ, ◌<◌, eqb, not, List, length, sym, refl, ap, ◌∙◌, arith, rules}
 use Rattle.std.proofs.lemmas.Bool.{and_left, eq-eqb, not_from_true}
 use Rattle.std.proofs.lemmas.List.{get_or_past}
 use Rattle.planner.specs.declared.bookings.Bookings.{Bookings}
@@ -7,6 +7,7 @@ use Rattle.planner.specs.Bookings.{none_past, overlap_of, overlap_mutual}
 use Rattle.planner.specs.FlowSets.{members}
 use Rattle.planner.specs.Groups.{overlapping}
 use Rattle.planner.specs.LinkSets.{share}
+use Rattle.planner.proofs.FromFn.{from_fn_each}
 use Rattle.planner.proofs.Memory.{by_number, routes_in, none_overlaps}
 use Rattle.planner.proofs.Tables.{bit_none}
 use Rattle.planner.proofs.bookings.Bookings.overlaps.Goals as goal
@@ -19,14 +20,21 @@ whole bs groups long each f g =
     (λ k past. ap (λ (x : FlowSet). members x g) (get_or_past groups k (record { 0 = 0 }) (omega arith)) ∙ bit_none g ∙ sym (none_overlaps bs k g (none_past bs k past)))
     f
 
+-- the groups that are made
+each : (c : goal.After-from_fn-groups) → (f g : ℕ) → overlapping c.from_fn-groups.result f g ≡ overlap_of (routes_in c.args.self.now) f g
+each c =
+    let bs = c.args.self.now in
+    let is : ℕ → FlowSet → Type 0 = λ f group. (g : ℕ) → members group g ≡ overlap_of (routes_in bs) f g in
+    whole bs c.from_fn-groups.result c.from_fn-groups.ensures.items.long
+    (λ f g low. from_fn_each _ is _ (λ i y q k. search rules) c.from_fn-groups.result (record { 0 = 0 }) 64 c.from_fn-groups.ensures.items f low g)
+
 pub returns : goal.returns
-returns c = whole c.args.self.now c.loop-n.group-items c.loop-n.invariant.long (λ f g low. c.loop-n.invariant.each f g (omega arith))
+returns c = each c.before
 
 pub invariant_of-result : goal.invariant_of-result
 invariant_of-result c =
     let routes = routes_in c.args.self.now in
-    let is = whole c.args.self.now c.loop-n.group-items c.loop-n.invariant.long (λ f g low. c.loop-n.invariant.each f g (omega arith)) in
     record {
-      symmetric = λ f g. is f g ∙ overlap_mutual routes f g ∙ sym (is g f);
-      apart = λ f. is f f ∙ and_left (not (eqb f f)) (share (routes f) (routes f)) (not_from_true (eqb f f) (eq-eqb f f refl));
+      symmetric = λ f g. each c f g ∙ overlap_mutual routes f g ∙ sym (each c g f);
+      apart = λ f. each c f f ∙ and_left (not (eqb f f)) (share (routes f) (routes f)) (not_from_true (eqb f f) (eq-eqb f f refl));
     }

@@ -1,6 +1,6 @@
 use Rattle.std.proofs.Common.{◌^◌, ◌<◌, rules}
 use Rattle.planner.proofs.Bits.{meet_tells}
-use Rattle.planner.proofs.link_sets.meet.Goals as goal
+use Rattle.planner.proofs.flow_sets.meet.Goals as goal
 
 pub returns : goal.returns
 returns c =

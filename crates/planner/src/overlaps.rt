@@ -7,6 +7,7 @@ use crate::flow_numbers::FlowNumber;
 use crate::flow_sets::{FlowSet, remove_from_all};
 
 /// For each flow the group of the flows that overlap it. Overlap is mutual, and no flow overlaps itself.
+// Clauses name the groups: the definitions under the laws are told of them, and a model would only give them another name.
 #[derive(Clone, Copy, PartialEq, Eq, Debug)]
 pub struct Overlaps {
     pub(crate) groups: [FlowSet; 64],

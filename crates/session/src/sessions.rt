@@ -8,6 +8,7 @@ use labels::names::Name;
 use planner::any_plans::AnyPlan;
 
 /// A plan, and what its flows are called: entry n of the labels is flow n's.
+// The labels are no part of a booking: a directory of labels is memory of 64 entries, for every kind, and knows no plan.
 #[derive(Drop)]
 pub(crate) struct Session<F: Fabric> {
     pub(crate) plan: AnyPlan<F>,

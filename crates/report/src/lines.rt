@@ -15,6 +15,7 @@ use std::fmt;
 pub fn route_line<F: Fabric>(heap: Global, fabric: &F, pair: Pair) -> Result<String, AllocError>
     ensures { IfOk result (λ line. RouteLine (F.Fabric.meaning fabric.now) pair (string_bytes line)) }
 {
+    // the two ends as the report spells them; a type for that text round a pair would read no plainer
     if !fabric.routed(pair) {
         return format!(in heap; "{}->{} has no route", pair.source, pair.destination);
     }

@@ -33,7 +33,8 @@ impl Word<'_> {
     }
 }
 
-// A reader of the arguments: all their words, and the place of the one that it reads next.
+// A reader of the arguments: all their words, and the place of the one that it reads next. Misuses and clauses name places, which
+// a `peekable` over `enumerate` would keep to itself.
 #[derive(Drop)]
 pub(crate) struct Words<'a> {
     pub(crate) all: &'a [String],

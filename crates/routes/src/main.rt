@@ -52,7 +52,8 @@ fn turn_away(rt: &HostRuntime, why: &impl Display) -> anyhow::Result<ExitCode> {
     Ok(ExitCode::FAILURE)
 }
 
-// Puts the modules on the fabric, the lowest first, and reports on the pile.
+// Puts the modules on the fabric, the lowest first, and reports on the pile. The fabric comes as it was made, so that a refusal of
+// any kind of fabric is told here alone.
 fn report_with<F: Fabric + Drop>(
     rt: &HostRuntime,
     fabric: Result<F, FabricFault>,

@@ -73,6 +73,7 @@ pub(crate) fn sole<A: Argument>(line: &[u8], arguments: &[Mark]) -> Option<A>
 }
 
 /// The verb at the first mark, and the marks after it.
+// By a rule of the project a slice pattern names the first mark and hands on the rest.
 pub(crate) fn verb_first<'a>(line: &[u8], marks: &'a [Mark]) -> Option<(Verb, &'a [Mark])>
     ensures { MatchOption result
         ((verb : Verb) (words : List (List ℕ)) → Stand line.now marks.now (verb_word verb ∷ words) → ⊥)

@@ -22,6 +22,7 @@ impl fmt::Display for Run {
 }
 
 // The runs of a row from a place on.
+// A place in the row, and not what is left of it: runs are told by their numbers.
 #[derive(Drop)]
 struct Runs<'a> {
     row: &'a [bool],

@@ -1,6 +1,8 @@
 //! Runs the script on standard input, and prints the answers to its lines.
 #![tactic(auto)]
 
+ghost use Rattle.std.specs.Prelude.{◌≤◌, length, IfOk};
+
 use session::printers::{Printer, Unprinted};
 use session::running::{LIMIT, run_script};
 use std::io;
@@ -8,7 +10,7 @@ use std::io::Read;
 use std::process::ExitCode;
 
 // One byte more than a script may have: a longer one is refused as a whole, whatever follows.
-const ENOUGH: u64 = LIMIT as u64 + 1;
+const ENOUGH: usize = LIMIT + 1;
 
 // Standard output. What is printed is outside of what a contract can say.
 #[derive(Drop)]
@@ -24,24 +26,34 @@ impl Printer for Screen<'_> {
     }
 }
 
-// Reads until the input ends or there is enough of it. The program may allocate, unlike the planner: where there is no memory for
-// the script, it is told that it cannot be read.
-fn read_script(rt: &HostRuntime) -> io::Result<Vec<u8>> {
-    let mut script = Vec::new(rt.alloc());
-    rt.stdin().take(ENOUGH).read_to_end(&mut script)?;
-    Ok(script)
+// Reads until the input ends or the room is full, and tells how many bytes there are. `read_to_end` would ask for memory, which
+// may be wanting, and for a small part of the input at first, which cuts an input that comes as one message.
+fn read_script(rt: &HostRuntime, room: &mut [u8]) -> io::Result<usize>
+    ensures { IfOk result (λ count. count ≤ length room.old) }
+{
+    let mut input = rt.stdin();
+    let mut count = 0;
+    while count < room.len() {
+        let more = input.read(&mut room[count..])?;
+        if more == 0 {
+            break;
+        }
+        count += more;
+    }
+    Ok(count)
 }
 
 fn main(rt: HostRuntime) -> anyhow::Result<ExitCode> {
-    let script = match read_script(&rt) {
-        Ok(script) => script,
+    let mut room = [0; ENOUGH];
+    let count = match read_script(&rt, &mut room) {
+        Ok(read) => read,
         Err(error) => {
             eprintln!(rt; "slotplan: the script cannot be read: {error}")?;
             return Ok(ExitCode::FAILURE);
         }
     };
     let mut screen = Screen { rt: &rt };
-    if let Err(fault) = run_script(&script, rt.alloc(), &mut screen) {
+    if let Err(fault) = run_script(&room[..count], rt.alloc(), &mut screen) {
         eprintln!(rt; "slotplan: {fault}")?;
         return Ok(ExitCode::FAILURE);
     }

@@ -29,17 +29,18 @@ fn meet<F: Fabric>(plan: &AnyPlan<F>, one: u16, other: u16) -> bool {
     (0..u16::from(plan.period())).any(|slot| plan.holds(one, slot) && plan.holds(other, slot))
 }
 
-// Whether two flows are carried on one link in one slot.
-fn clash<F: Fabric>(plan: &AnyPlan<F>, twin: &F, one: u16, other: u16) -> bool {
-    plan.flow(one).zip(plan.flow(other)).is_some_and(|(first, second)| {
-        meet(plan, one, other) && overlap(twin, first.ends, second.ends)
-    })
-}
-
 // With how many flows below it the flow is carried on one link in one slot.
+// Which flow is booked is asked before the others are gone over: most numbers are free, and each look goes over all pairs.
 fn clashes<F: Fabric>(plan: &AnyPlan<F>, twin: &F, one: u16) -> usize {
+    let Some(first) = plan.flow(one) else {
+        return 0;
+    };
     (0..one)
-        .filter(|other| clash(plan, twin, one, *other))
+        .filter(|other| {
+            plan.flow(*other).is_some_and(|second| {
+                meet(plan, one, *other) && overlap(twin, first.ends, second.ends)
+            })
+        })
         .count()
 }
 

@@ -2,7 +2,7 @@
 ghost use Rattle.std.specs.Prelude.{◌≡◌, IfOk, Some, MatchOption};
 ghost use Rattle.report.specs.Spelled.{commas, Numbers, IsNumbers};
 
-use decimals::read_number;
+use decimals::parse_number;
 use std::alloc::{AllocError, Global};
 use std::fmt;
 
@@ -26,14 +26,14 @@ impl fmt::Display for Commas<'_> {
     }
 }
 
-/// The numbers that a word spells, parted by commas, one or more; each as `read_number` reads it.
+/// The numbers that a word spells, parted by commas, one or more; each as `parse_number` reads it.
 pub fn read_commas(heap: Global, word: &str) -> Result<Option<Vec<u16>>, AllocError>
     ensures { IfOk result (λ found. MatchOption found (IsNumbers word.now → ⊥) (λ ns. Numbers ns.items × (word.now ≡ commas ns.items))) }
 {
     // a loop, since `collect` would have no way to tell a part that is no number from no memory
     let mut numbers = Vec::new(heap);
     for part in word.split(',') {
-        let Some(n) = read_number(part.as_bytes()) else {
+        let Some(n) = parse_number(part) else {
             return Ok(None);
         };
         numbers.push(n)?;

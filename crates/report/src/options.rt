@@ -5,7 +5,7 @@ ghost use Rattle.report.specs.Words.{all_of, next_of};
 
 use crate::misuses::Misuse;
 use crate::words::Words;
-use decimals::read_number;
+use decimals::parse_number;
 use fabric::modules::Module;
 use std::alloc::Global;
 
@@ -14,8 +14,8 @@ pub fn read_module(word: &str) -> Option<Module>
     ensures { MatchOption result (IsModule word.now → ⊥) (λ m. ShortModule m × (word.now ≡ module_word m)) }
 {
     let (first, second) = word.split_once(',')?;
-    let port = read_number(first.as_bytes())?;
-    let count = read_number(second.as_bytes())?;
+    let port = parse_number(first)?;
+    let count = parse_number(second)?;
     Some(Module { port, count })
 }
 

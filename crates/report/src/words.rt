@@ -7,7 +7,7 @@ ghost use Rattle.report.specs.Words.{all_of, next_of, Takes};
 
 use crate::commas::read_commas;
 use crate::misuses::Misuse;
-use decimals::read_number;
+use decimals::parse_number;
 use std::alloc::Global;
 
 // A word, and its place among the arguments.
@@ -22,7 +22,7 @@ impl Word<'_> {
     pub(crate) fn number(self) -> Result<u16, Misuse>
         ensures { MatchResult result (λ n. self.entry.text.now ≡ decimal n) (λ e. (e ≡ NotANumber self.entry.place) × (IsNumber self.entry.text.now → ⊥)) }
     {
-        read_number(self.text.as_bytes()).ok_or(Misuse::NotANumber(self.place))
+        parse_number(self.text).ok_or(Misuse::NotANumber(self.place))
     }
 
     // The numbers that the word spells, parted by commas.

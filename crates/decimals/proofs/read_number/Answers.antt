@@ -1,12 +1,6 @@
-use Rattle.std.proofs.Common.{◌<◌, ◌≤◌, length, get_or, sym, subst, arith}
-use Rattle.std.specs.Str.Parse.{ParsesUnsigned}
-use Rattle.decimals.proofs.NumberWords.{first_digit, is_text, spells, ok_cases}
+use Rattle.std.proofs.Common.{◌≡◌, ℕ, ◌^◌, ◌<◌, List, sym, subst, decimal, MatchOption, ◌≢◌}
+use Rattle.decimals.proofs.NumberWords.{is_text, ok_cases}
 use Rattle.decimals.proofs.read_number.Goals as goal
-use Rattle.decimals.proofs.read_number.Goals.{else-word-gt1-via-then-word-gt1+else-word-lt49, else-word-gt1-via-else-word-gt1}
-
-pub returns-then-word-lt49 : goal.returns-then-word-lt49
-returns-then-word-lt49 c =
-    λ n small e. first_digit n c.args.word.now small e c.if-word-gt1.true c.if-word-lt49.true
 
 pub returns-in_err-ok : goal.returns-in_err-ok
 returns-in_err-ok c =
@@ -16,12 +10,6 @@ returns-in_err-ok c =
 
 pub returns : goal.returns
 returns c =
-    let plain : 1 < length c.args.word.now → 49 ≤ get_or c.args.word.now 0 0 =
-    λ long.
-    elim c.else-word-gt1.branch [
-      | else-word-gt1-via-then-word-gt1+else-word-lt49 w ↦ w.if-word-lt49.false
-      | else-word-gt1-via-else-word-gt1 w ↦ absurd (omega (arith, w.if-word-gt1.false))
-    ] in
     let cases = ok_cases _ _ c.from_utf8.result c.from_utf8.ensures.cases (λ e text. text.0) in
     let same = (rw (sym c.in_ok-ok.ensures.value) at cases).0 in
-    rw c.ok-2.ensures.value (spells c.args.word.now plain c.parse.result (subst (λ bs. ParsesUnsigned 16 10 bs c.parse.result) same c.parse.ensures.value.0))
+    subst (λ bs. MatchOption c.parse_number.result ((n : ℕ) → n < 2 ^ 16 → bs ≢ decimal n) (λ n. bs ≡ decimal n)) same c.parse_number.ensures

@@ -10,7 +10,7 @@ returns-in_default c =
     let cut = YieldsList-at c.into_iter-part-iterator.ensures.into_iter_gives (YieldsList-from_str_split 44 c.args.word.now (omega arith) c.split-part-items.ensures.text c.split-part-items.ensures.has_more c.split-part-items.ensures.pattern) in
     let turn = YieldsList-turn cut _ _ c.loop-part.yielded_by _ _ c.in-Some.part c.in-Some.is c.next.ensures.steps in
     let number = part_number c.args.word.now c.in-Some.part.now _ spelled turn.0 turn.1 in
-    c.in_default.ensures number.0 number.1 (c.as_bytes.ensures.value ∙ number.2)
+    c.in_default.ensures number.0 number.1 number.2
 
 pub returns : goal.returns
 returns c =

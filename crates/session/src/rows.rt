@@ -20,6 +20,7 @@ pub(crate) fn slot_row<Q: Questions>(plan: &Q, number: u16) -> [bool; 255]
     ensures row { take (Q.shown plan.now).period result ≡ slot_row (Q.shown plan.now) number }
     ensures whole { length result ≡ 255 }
 {
+    // a loop, since `from_fn` would go through all 255 slots, however short the period is
     let mut row = [false; 255];
     for slot in 0..plan.period() {
         row[usize::from(slot)] = plan.holds(number, u16::from(slot));

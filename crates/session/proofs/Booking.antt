@@ -1,60 +1,54 @@
 -- Commands with a label, put together from the label's part and the plan's.
-use Rattle.std.proofs.Common.{◌≡◌, ℕ, true, ◌⊎◌, List, set, None, Ok, Err, Option, Result, sym, refl, ap, ◌∙◌, subst, inl, inr, ⊎_elim}
-use Rattle.labels.specs.Directories.{Lowest}
+use Rattle.std.proofs.Common.{◌≡◌, ℕ, ◌<◌, true, List, get_or, set, length, Some, None, Ok, Err, Option, Result, sym, ap, ◌∙◌, ⊎_elim, length-set, set-set}
+use lib.Seq.{set-get_or}
+use Rattle.labels.specs.Directories.{Lowest, Unbinds}
+use Rattle.labels.specs.Faults.{AllHold}
+use Rattle.labels.specs.declared.faults.LabelFault.{LabelFault}
 use Rattle.labels.specs.declared.names.Name.{Name}
+use Rattle.planner.specs.Shown.{Shown}
+use Rattle.planner.specs.Steps.{allowed}
 use Rattle.planner.specs.declared.calls.Call.{Call}
-use Rattle.planner.specs.declared.calls.Call.TheVariants.{Enrol, Admit, Withdraw}
-use Rattle.planner.specs.Steps.{Step, allowed}
-use Rattle.planner.specs.declared.plan_faults.PlanFault.{PlanFault}
+use Rattle.planner.specs.declared.calls.Call.TheVariants.{Withdraw}
 use Rattle.script.specs.declared.commands.Wanted.{Wanted}
-use Rattle.session.specs.Parts.{Labelled, Relabels}
-use Rattle.session.specs.Sessions.{Answer, BooksLabelled, Makes, State, UnbooksLabelled, flow_of, same_name}
+use Rattle.session.specs.Sessions.{BooksLabelled, Calls, State, UnbooksLabelled, label_checks, same_name}
 use Rattle.session.specs.declared.faults.ScriptFault.{ScriptFault}
 use Rattle.session.specs.declared.faults.ScriptFault.TheVariants.{NoForm, WrongState, Fabric, Label, Plan}
-use Rattle.session.proofs.Naming.{Leaves, refused_same}
 
--- a plan's answer, as a script's
-abbrev pub plan_answer : Result (Unit {0}) PlanFault → Answer
-plan_answer (Ok done) = Ok tt
-plan_answer (Err fault) = Err (Plan fault)
+-- an entry that was empty, filled and emptied again
+as_before : (labels : List (Option Name)) (n : ℕ) (name : Name) → get_or labels n None ≡ None → set (set labels n (Some name)) n None ≡ labels
+as_before labels n name e =
+    set-set labels n (Some name) None ∙ ap (λ v. set labels n v) (sym e) ∙ set-get_or labels n None
 
-pub made : (s : State) (c : Call) (relabelled : List (Option Name)) (a : Result (Unit {0}) PlanFault) (t : State)
-    → allowed s.shown.running c ≡ true → Step s.shown c a t.shown → Leaves s.labels relabelled t.labels a → Makes s c relabelled (plan_answer a) t
-made s c relabelled (Ok x) t al step (inl p) = (al, step, p.1)
-made s c relabelled (Ok x) t al step (inr p) = let no = p.0 in cc
-made s c relabelled (Err e) t al step (inl p) = let no = p.0 in cc
-made s c relabelled (Err e) t al step (inr p) =
-    (al, step, ap (λ u. record { shown = u; labels = t.labels }) (refused_same s.shown t.shown c e step) ∙ ap (λ l. record { shown = s.shown; labels = l }) p.1)
+-- an entry is emptied: the memory and the number are as they must be
+pub emptied : (before after : List (Option Name)) (n : ℕ) (r : Result (Unit {0}) LabelFault) → length before ≡ 64 → n < 64 → Unbinds before n after r → after ≡ set before n None
+emptied before after n (Ok x) whole inside h = h.1
+emptied before after n (Err f) whole inside h =
+    absurd (⊎_elim (λ a. a.0 whole) (λ b. ⊎_elim (λ a. a.0 inside) (λ z. z.1) b.1) h.0)
 
-pub booked : (s : State) (c : Call) (w : Wanted) (labels : List (Option Name)) (a : Answer) (t : State) → Labelled s c w (Ok labels) → Makes s c labels a t → BooksLabelled s c w a t
-booked s c w labels (Ok x) t h m = (h.0, h.1, m.1, m.2 ∙ h.2)
-booked s c w labels (Err NoForm) t h m = m
-booked s c w labels (Err WrongState) t h m = m
-booked s c w labels (Err (Fabric e)) t h m = m
-booked s c w labels (Err (Label e)) t h m = absurd m
-booked s c w labels (Err (Plan e)) t h m = (h.0, h.1, m.1, m.2)
+-- a label that was bound is unbound again
+pub restored : (s : State) (w : Wanted) (mid after : List (Option Name)) (r : Result (Unit {0}) LabelFault)
+    → AllHold (label_checks s w) → mid ≡ set s.labels w.number (Some w.name) → Unbinds mid w.number after r → after ≡ s.labels
+restored s w mid after r all e u =
+    emptied mid after w.number r (ap length e ∙ length-set s.labels w.number (Some w.name) ∙ all.0) all.1.0 u
+    ∙ ap (λ l. set l w.number None) e
+    ∙ as_before s.labels w.number w.name all.1.1.1.0
 
-pub not_booked : (s : State) (c : Call) (w : Wanted) (f : ScriptFault) → Labelled s c w (Err f) → BooksLabelled s c w (Err f) s
-not_booked s c w NoForm h = h
-not_booked s c w WrongState h = (h, refl)
-not_booked s c w (Fabric e) h = h
-not_booked s c w (Label e) h = (h.0, h.1, refl)
-not_booked s c w (Plan e) h = absurd h
+-- the call was refused, with the label bound, and the labels are again as they were
+pub not_booked : (s : State) (t : Shown) (mid after : List (Option Name)) (c : Call) (w : Wanted) (f : ScriptFault)
+    → allowed s.shown.running c ≡ true → AllHold (label_checks s w)
+    → Calls (record { shown = s.shown; labels = mid }) c (Err f) (record { shown = t; labels = mid })
+    → after ≡ s.labels
+    → BooksLabelled s c w (Err f) (record { shown = t; labels = after })
+not_booked s t mid after c w NoForm al all h again = h
+not_booked s t mid after c w WrongState al all h again = let no = h.0 in cc
+not_booked s t mid after c w (Fabric fault) al all h again = h
+not_booked s t mid after c w (Label fault) al all h again = absurd h
+not_booked s t mid after c w (Plan fault) al all h again =
+    (al, all, h.1, ap (λ p. record { shown = p.shown; labels = after }) h.2 ∙ ap (λ l. record { shown = s.shown; labels = l }) again)
 
-pub unbooked : (s : State) (name : Name) (n : ℕ) (labels : List (Option Name)) (a : Answer) (t : State) → Lowest same_name s.labels name n → labels ≡ set s.labels n None
-    → Makes s (Withdraw n) labels a t → UnbooksLabelled s name a t
-unbooked s name n labels (Ok x) t l e m = (n, l, m.1, m.2 ∙ e)
-unbooked s name n labels (Err NoForm) t l e m = m
-unbooked s name n labels (Err WrongState) t l e m = let same = m.0 in cc
-unbooked s name n labels (Err (Fabric e')) t l e m = m
-unbooked s name n labels (Err (Label e')) t l e m = absurd m
-unbooked s name n labels (Err (Plan e')) t l e m = (n, l, m.1, m.2)
-
--- the labels with the one that is wanted are those that its call leaves
-pub relabels : (s : State) (c : Call) (w : Wanted) (labels : List (Option Name)) → (c ≡ Enrol w.number (flow_of w)) ⊎ (c ≡ Admit w.number (flow_of w))
-    → Labelled s c w (Ok labels) → Relabels c s.labels labels
-relabels s c w labels books h =
-    ⊎_elim
-    (λ e. subst (λ d. Relabels d s.labels labels) (sym e) (w.name, h.1.1.0, h.2))
-    (λ e. subst (λ d. Relabels d s.labels labels) (sym e) (w.name, h.1.1.0, h.2))
-    books
+pub not_unbooked : (s t : State) (name : Name) (n : ℕ) (f : ScriptFault) → Lowest same_name s.labels name n → Calls s (Withdraw n) (Err f) t → UnbooksLabelled s name (Err f) t
+not_unbooked s t name n NoForm l h = h
+not_unbooked s t name n WrongState l h = let no = h.0 in cc
+not_unbooked s t name n (Fabric e) l h = h
+not_unbooked s t name n (Label e) l h = absurd h
+not_unbooked s t name n (Plan e) l h = (n, l, h.1, h.2)

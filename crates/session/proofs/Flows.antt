@@ -1,22 +1,13 @@
 -- The lines of `show`, one flow after another.
-use Rattle.std.proofs.Common.{◌≡◌, ℕ, ◌+◌, ◌≤◌, Bool, false, true, List, [], ◌∷◌, ◌++◌, map, take, is_some, Some, None, Option, sym, refl, ap, ◌∙◌, subst, add-one, MatchOption}
-use Rattle.std.proofs.lemmas.List.FromFn.{take-map-range_with_len}
-use Rattle.std.specs.List.{range_with_len}
+use Rattle.std.proofs.Common.{◌≡◌, ℕ, ◌+◌, Bool, false, true, List, [], ◌∷◌, ◌++◌, is_some, Some, None, Option, sym, refl, ap, ◌∙◌, subst, add-one, MatchOption}
 use Rattle.labels.specs.Directories.{entry_of}
 use Rattle.labels.specs.Names.{spelled}
 use Rattle.labels.specs.declared.names.Name.{Name}
 use Rattle.planner.specs.Bookings.{demand_of}
 use Rattle.planner.specs.Questions.{Wait}
-use Rattle.planner.specs.Shown.{Shown}
 use Rattle.planner.specs.declared.flows.Flow.{Flow}
 use Rattle.session.specs.Sessions.{Named, State}
 use Rattle.session.specs.Shows.{ShowsBelow, ShowsFlow, flow_line, slot_row}
-
--- a row of 255 slots, cut at the period
-pub held_row : (s : Shown) (n k : ℕ) (all : List Bool) → k ≡ s.period → k ≤ 255 → all ≡ map (s.holds n) (range_with_len 0 255) → take k all ≡ slot_row s n
-unfolding slot_row
-held_row s n k all e below same =
-    ap (take k) same ∙ take-map-range_with_len (s.holds n) 0 255 k below ∙ ap (λ p. map (s.holds n) (range_with_len 0 p)) e
 
 -- a flow with a label is booked
 pub shown_flow : (s : State) (n : ℕ) (name : Name) (demand wait : ℕ) (row : List Bool)

@@ -1,23 +1,28 @@
 //! The calls that a session makes on its plan.
-ghost use Rattle.std.specs.Prelude.{◌≡◌};
-ghost use Rattle.planner.specs.Steps.{allowed};
+ghost use Rattle.std.specs.Prelude.{◌≡◌, ◌≢◌, true, List, Option};
+ghost use Rattle.fabric.specs.declared.modules.Module.{Module};
+ghost use Rattle.labels.specs.declared.names.Name.{Name};
+ghost use Rattle.planner.specs.Outcomes.{any_shows};
+ghost use Rattle.planner.specs.Steps.{Step, allowed};
+ghost use Rattle.planner.specs.declared.calls.Call.TheVariants.{Fit};
 ghost use Rattle.session.specs.Output.{Opens, unlabelled};
-ghost use Rattle.session.specs.Parts.{Relabels, state_of};
-ghost use Rattle.session.specs.Sessions.{Makes};
+ghost use Rattle.session.specs.Parts.{state_of};
+ghost use Rattle.session.specs.Sessions.{Calls};
 
 use crate::faults::ScriptFault;
 use crate::sessions::Session;
+use core::mem::replace_with;
 use fabric::Fabric;
-use labels::names::Name;
 use planner::any_plans::{AnyPlan, Outcome};
 use planner::calls::Call;
 use planner::performing::perform;
 use planner::periods::Period;
+use planner::plan_faults::PlanFault;
 use planner::plans::Plan;
 
 /// Whether the state allows the call.
 // The planner's `perform` refuses the same calls, but only once it has the plan. A label is checked between the state and the plan,
-// and a plan that has taken a call cannot give it back, so the state is asked here first.
+// and a plan is large, so one that need not be moved stays where it is.
 pub(crate) fn allows(running: bool, call: Call) -> bool
     ensures { result ≡ allowed running call }
 {
@@ -25,6 +30,30 @@ pub(crate) fn allows(running: bool, call: Call) -> bool
         Call::Enrol(_, _) | Call::Replan | Call::Start | Call::Fit(_) => !running,
         Call::Admit(_, _) | Call::Rest => running,
         Call::Withdraw(_) => true,
+    }
+}
+
+/// Makes a call that is no fit, where the plan stands.
+pub(crate) fn make<F: Fabric + Drop>(plan: &mut AnyPlan<F>, call: Call) -> Result<(), ScriptFault>
+    requires { (d : Module) → call ≢ Fit d }
+    ensures { (labels : List (Option Name)) → Calls (record { shown = any_shows F.Fabric.meaning plan.old; labels = labels }) call result (record { shown = any_shows F.Fabric.meaning plan.new; labels = labels }) }
+{
+    if !allows(plan.is_running(), call) {
+        return Err(ScriptFault::WrongState);
+    }
+    replace_with(plan, call, performed)?;
+    Ok(())
+}
+
+// The plan after a call that its state allows, and that is no fit. `perform` takes the plan by value, and gives it back.
+fn performed<F: Fabric + Drop>(plan: AnyPlan<F>, call: Call) -> (AnyPlan<F>, Result<(), PlanFault>)
+    requires allows { allowed (any_shows F.Fabric.meaning plan).running call ≡ true }
+    requires no_fit { (d : Module) → call ≢ Fit d }
+    ensures { Step (any_shows F.Fabric.meaning plan) call result.1 (any_shows F.Fabric.meaning result.0) }
+{
+    match perform(plan, call) {
+        Outcome::Answered(after, answer) => (after, answer),
+        Outcome::NotAllowed(_) | Outcome::Fitted(_) => unreachable(),
     }
 }
 
@@ -37,28 +66,6 @@ impl<F: Fabric + Drop> Session<F> {
         Session {
             plan: AnyPlan::Resting(Plan::open(fabric, length)),
             labels: [None; 64],
-        }
-    }
-
-    /// Makes a call. Accepted, it leaves these labels; refused, nothing changes.
-    pub(crate) fn make(
-        self,
-        call: Call,
-        relabelled: [Option<Name>; 64],
-    ) -> (Self, Result<(), ScriptFault>)
-        requires { Relabels call self.labels relabelled }
-        ensures { Makes (state_of self) call relabelled result.1 (state_of result.0) }
-    {
-        let Session { plan, mut labels } = self;
-        match perform(plan, call) {
-            Outcome::Answered(plan, answer) => {
-                if answer.is_ok() {
-                    labels = relabelled;
-                }
-                (Session { plan, labels }, answer.map_err(ScriptFault::Plan))
-            }
-            Outcome::NotAllowed(plan) => (Session { plan, labels }, Err(ScriptFault::WrongState)),
-            Outcome::Fitted(_) => unreachable(),
         }
     }
 }

@@ -1,7 +1,7 @@
 //! Rows of tests: which flows are in a group, and which slots a flow holds.
-ghost use Rattle.std.specs.Prelude.{◌≡◌, map};
-ghost use Rattle.std.specs.List.{range_with_len};
+ghost use Rattle.std.specs.Prelude.{◌≡◌, length, take};
 ghost use Rattle.session.specs.Answers.{group_row};
+ghost use Rattle.session.specs.Shows.{slot_row};
 
 use planner::flow_sets::FlowSet;
 use planner::questions::Questions;
@@ -15,10 +15,15 @@ pub(crate) fn group_row(group: FlowSet) -> [bool; 64]
     array::from_fn(|flow| group.contains_flow(flow as u16))
 }
 
-/// Which of the 255 slots the flow holds; past the period, none.
+/// Which slots the flow holds; past the period, none is asked for.
 pub(crate) fn slot_row<Q: Questions>(plan: &Q, number: u16) -> [bool; 255]
-    ensures { result ≡ map ((Q.shown plan.now).holds number) (range_with_len 0 255) }
+    ensures row { take (Q.shown plan.now).period result ≡ slot_row (Q.shown plan.now) number }
+    ensures whole { length result ≡ 255 }
 {
-    // no bits are lost: there are 255 slots
-    array::from_fn(|slot| plan.holds(number, slot as u16))
+    // a loop, since `from_fn` would go through all 255 slots, however short the period is
+    let mut row = [false; 255];
+    for slot in 0..plan.period() {
+        row[usize::from(slot)] = plan.holds(number, u16::from(slot));
+    }
+    row
 }

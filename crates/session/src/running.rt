@@ -1,5 +1,5 @@
 //! How a script is run.
-ghost use Rattle.std.specs.Prelude.{◌≡◌, ℕ, ◌≤◌, List, [], ◌∷◌, length, IfOk, Ok, OnOk};
+ghost use Rattle.std.specs.Prelude.{◌≡◌, ℕ, ◌≤◌, List, [], ◌∷◌, length, Ok, OnOk};
 ghost use Rattle.script.specs.Lines.{LinesOf, left};
 ghost use Rattle.session.specs.Answers.{answer_line};
 ghost use Rattle.session.specs.Output.{CommandTold, Handed, LineTold, OpeningTold, Output, RestTold};
@@ -23,21 +23,17 @@ impl<P: Printer> Teller<'_, P> {
     // Obeys a command, and prints what it is told.
     fn tell_command<F: Fabric + Drop>(
         &mut self,
-        session: Session<F>,
+        session: &mut Session<F>,
         command: Command,
         number: usize,
-    ) -> Result<Session<F>, RunFault>
-        ensures { IfOk result (λ after. (piece : List (List ℕ)) × CommandTold number (state_of session) command piece (state_of after) × Tells P.Printer.took self.old piece self.new) }
+    ) -> Result<(), RunFault>
+        ensures { OnOk result ((piece : List (List ℕ)) × CommandTold number (state_of session.old) command piece (state_of session.new) × Tells P.Printer.took self.old piece self.new) }
     {
         match command {
-            Command::Show => {
-                session.show(self)?;
-                Ok(session)
-            }
+            Command::Show => session.show(self),
             _ => {
-                let (session, given) = session.obey(command);
-                self.answer(given, number)?;
-                Ok(session)
+                let given = session.obey(command);
+                self.answer(given, number)
             }
         }
     }
@@ -45,18 +41,15 @@ impl<P: Printer> Teller<'_, P> {
     // Obeys a line after the first two, and prints what it is told.
     fn tell_line<F: Fabric + Drop>(
         &mut self,
-        session: Session<F>,
+        session: &mut Session<F>,
         line: &[u8],
         number: usize,
-    ) -> Result<Session<F>, RunFault>
-        ensures { IfOk result (λ after. (piece : List (List ℕ)) × LineTold number (state_of session) line.now piece (state_of after) × Tells P.Printer.took self.old piece self.new) }
+    ) -> Result<(), RunFault>
+        ensures { OnOk result ((piece : List (List ℕ)) × LineTold number (state_of session.old) line.now piece (state_of session.new) × Tells P.Printer.took self.old piece self.new) }
     {
         match read_command(line) {
             Some(command) => self.tell_command(session, command, number),
-            None => {
-                self.answer(Err(ScriptFault::NoForm), number)?;
-                Ok(session)
-            }
+            None => self.answer(Err(ScriptFault::NoForm), number),
         }
     }
 
@@ -70,7 +63,7 @@ impl<P: Printer> Teller<'_, P> {
         ensures { OnOk result ((all : List (List ℕ)) × (told : List (List ℕ)) × LinesOf (left lines.entry) all × RestTold 3 (state_of session) all told × Tells P.Printer.took self.old told self.new) }
     {
         for (number, line) in (3..).zip(lines) {
-            session = self.tell_line(session, line, number)?;
+            self.tell_line(&mut session, line, number)?;
         }
         Ok(())
     }

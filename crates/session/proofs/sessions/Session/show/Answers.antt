@@ -3,7 +3,7 @@ use Rattle.std.proofs.lemmas.List.{get_or_read}
 use Rattle.labels.specs.Names.{spelled}
 use Rattle.session.specs.Parts.{Tells, state_of}
 use Rattle.session.specs.Shows.{ShowsBelow, flow_line}
-use Rattle.session.proofs.Flows.{held_row, no_flow, shown_flow, shows_more}
+use Rattle.session.proofs.Flows.{no_flow, shown_flow, shows_more}
 use Rattle.session.proofs.Handing.{tells_more}
 use Rattle.session.proofs.sessions.Session.show.Goals as goal
 use Rattle.session.proofs.sessions.Session.show.Goals.{in-Some+in_ok-tell, in_default}
@@ -23,7 +23,7 @@ loop-at-preserved g c =
     let entry = sym (get_or_read session.labels n c.label-item.result inside c.label-item.is None) ∙ c.label-item.is in
     elim c.match-label.branch [
       | in-Some+in_ok-tell w ↦
-          let row = held_row s.shown n w.from.result w.slot_row-row.result (w.from.ensures ∙ w.period.ensures) (omega (arith, w.from.ensures, w.period.type_inv)) w.slot_row-row.ensures in
+          let row = ap (λ k. take k w.slot_row-row.result) (w.from.ensures ∙ w.period.ensures) ∙ w.slot_row-row.ensures.row in
           let line = flow_line (spelled w.in-Some.name) n w.demand.result w.wait.result (take w.from.result w.slot_row-row.result) in
           let flow = shown_flow s n w.in-Some.name w.demand.result w.wait.result _ session.named (entry ∙ w.in-Some.is) w.demand.ensures w.wait.ensures row in
           let told = subst (λ t. Tells took c.loop-at.teller (line ∷ []) t) (sym w.teller-is) (w.in_ok-tell.ensures line refl) in

@@ -10,12 +10,12 @@ pub loop-number-preserved : goal.loop-number-preserved
 loop-number-preserved g c =
     let i = c.loop-number.invariant in
     let d = i.told in
-    let p = c.in_ok-session.ensures in
+    let p = c.in_ok-tell_line.ensures in
     let number = c.in-Some.number in
     let script = left c.args.lines in
     let start = state_of c.args.session in
     let s = state_of c.loop-number.session in
-    let t = state_of c.in_ok-session.session in
+    let t = state_of c.tell_line.new.session in
     let ahead = left (zip_second c.loop-number.number-iterator) in
     let after = left (zip_second c.next.new.self) in
     let steps = c.in-Some.ensures.steps in

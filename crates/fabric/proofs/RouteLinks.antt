@@ -9,7 +9,7 @@ use Rattle.fabric.specs.RouteLists.{Route, Distinct, ends, joins, among, some_jo
 use Rattle.fabric.specs.RouteReading.{links_of}
 use Rattle.fabric.specs.RouteLaws.{joins_ends}
 
-crosses_none : (rs : List Route) (p : Pair) (k : ℕ) → some_joins rs p ≡ false → some_crosses rs p k ≡ false
+pub crosses_none : (rs : List Route) (p : Pair) (k : ℕ) → some_joins rs p ≡ false → some_crosses rs p k ≡ false
 crosses_none [] p k e = refl
 crosses_none (r ∷ rs) p k e =
     let parts = or_parts (joins r p) (some_joins rs p) e in
@@ -25,7 +25,7 @@ joins_first true others r found more = refl
 joins_first false others r found more = more
 
 -- a pair's route crosses its links
-crosses_links : (rs : List Route) (p : Pair) (k : ℕ) → Distinct rs → some_crosses rs p k ≡ option_map_or (among k) (links_of rs p) false
+pub crosses_links : (rs : List Route) (p : Pair) (k : ℕ) → Distinct rs → some_crosses rs p k ≡ option_map_or (among k) (links_of rs p) false
 crosses_links [] p k d = refl
 crosses_links (r ∷ rs) p k d =
     crosses_first (joins r p) (some_crosses rs p k) r (find (λ x. joins x p) rs) k

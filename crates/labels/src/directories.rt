@@ -17,9 +17,9 @@ pub fn find<L: Label>(entries: &[Option<L>], label: L) -> Result<Option<u8>, Lab
     if entries.len() != FLOWS {
         return Err(LabelFault::WrongMemory);
     }
-    let number = entries
-        .iter()
-        .position(|entry| entry.is_some_and(|held| held.is_same(&label)));
+    let number = entries.iter().position(
+        |entry| matches!(entry, Some(held) if held.is_same(&label)),
+    );
     // no bits are lost: there are 64 entries
     Ok(number.map(|number| number as u8))
 }

@@ -1,10 +1,11 @@
 -- Lines of a script: it is lines in one way, and a walk along its bytes 10 finds them.
-use Rattle.std.proofs.Common.{◌≡◌, ℕ, ◌≤◌, List, [], ◌∷◌, ◌++◌, length, drop, All, Some, None, Option, MatchOption, Bor, sym, refl, ap, ◌∙◌, subst, inl, inr, ⊎_elim, append_assoc, length-append, arith}
+use Rattle.std.proofs.Common.{◌≡◌, ℕ, ◌+◌, ◌-◌, ◌<◌, ◌≤◌, List, [], ◌∷◌, ◌++◌, length, drop, All, Some, None, Option, MatchOption, Bor, sym, refl, ap, ◌∙◌, subst, inl, inr, ⊎_elim, append_assoc, append-nil, length-append, length-drop, arith}
 use Rattle.std.specs.List.{AllByRecursion}
 use Rattle.std.specs.Option.{unwrap_or}
 use Rattle.std.proofs.ByRecursion.{All-from_get_or}
+use Rattle.std.proofs.lemmas.List.{drop_all, drop-drop, drop-append-le}
 use Rattle.std.proofs.lemmas.Bool.{cases_eq}
-use Rattle.script.specs.Lines.{Unbroken, ended, last_line, LinesOf, FirstLine, LinesStand}
+use Rattle.script.specs.Lines.{Unbroken, ended, last_line, LinesOf, FirstLine, NextLine, LinesStand}
 
 -- nothing, or byte 10 and more
 abbrev Parted : List ℕ → Type 0
@@ -80,6 +81,45 @@ last script line free same some = record {
 pub first_line : (script line : List ℕ) (after : Option (Bor (List ℕ))) (none : Bor (List ℕ)) → none.now ≡ [] → All (λ byte. byte ≡ 10 → ⊥) line → MatchOption after (script ≡ line) (λ rest. script ≡ line ++ 10 ∷ rest.now) → 1 ≤ length script → FirstLine script line (unwrap_or after none).now
 first_line script line None none empty free same some = subst (FirstLine script line) (sym empty) (last script line free same some)
 first_line script line (Some rest) none empty free same some = one_more script line rest.now free same
+
+-- past the last byte there is no line
+pub none_past : (script : List ℕ) (from : ℕ) → length script ≤ from → LinesOf (drop from script) []
+none_past script from past = subst (λ left. LinesOf left []) (sym (drop_all from script past)) none_left
+
+-- bytes end with what stands so far before their end
+ends_with : (bytes front rest : List ℕ) (at : ℕ) → bytes ≡ front ++ rest → at + length rest ≡ length bytes → drop at bytes ≡ rest
+ends_with bytes front rest at same place =
+    let long = ap length same ∙ length-append front rest in
+    ap (drop at) same ∙ drop-append-le at front rest (omega (arith, long)) ∙ ap (λ l. l ++ rest) (drop_all at front (omega (arith, long)))
+
+module _ (script : List ℕ) (from : ℕ) (line rest : List ℕ) (next : ℕ) (inside : from ≤ length script) (place : next + length rest ≡ length script) (first : FirstLine (drop from script) line rest) where
+  forward : from < next
+  forward = omega (arith, first.shorter, length-drop from script)
+
+  -- the next line begins where the rest does
+  left_over : drop next script ≡ rest
+  left_over =
+      sym (drop-drop (next - from) from script ∙ ap (λ n. drop n script) (omega (arith, forward))) ∙ ends_with (drop from script) front rest (next - from) bytes (omega (arith, forward, length-drop from script))
+    where
+      cut : (front : List ℕ) × (drop from script ≡ front ++ rest)
+      cut = ⊎_elim
+          (λ stop. (line ++ 10 ∷ [], stop ∙ sym (append_assoc line (10 ∷ []) rest)))
+          (λ end. (line, end.0 ∙ sym (append-nil line) ∙ ap (λ l. line ++ l) (sym end.1)))
+          first.bytes
+
+      front : List ℕ
+      front = cut.0
+
+      bytes : drop from script ≡ front ++ rest
+      bytes = cut.1
+
+  -- what begins at a place is told by the places, as by what is left there
+  pub next_line : NextLine script from line next
+  next_line = record {
+    forward = forward;
+    within = omega arith;
+    adds = λ lines is. first.adds lines (subst (λ left. LinesOf left lines) left_over is);
+  }
 
 -- a byte before a script
 abbrev Front : ℕ → List (List ℕ) → List ℕ → Type 0

@@ -1,5 +1,5 @@
 -- The lines of a script: each ends with byte 10, the last perhaps without.
-use Rattle.std.specs.Prelude.{◌≡◌, ℕ, ◌<◌, ◌⊎◌, List, [], ◌∷◌, ◌++◌, length, ◌≢◌}
+use Rattle.std.specs.Prelude.{◌≡◌, ℕ, ◌<◌, ◌≤◌, ◌⊎◌, List, [], ◌∷◌, ◌++◌, length, drop, ◌≢◌}
 use Rattle.std.specs.List.{flat_map, AllByRecursion}
 use Rattle.script.specs.declared.lines.Lines.{Lines}
 
@@ -30,6 +30,12 @@ pub record FirstLine (script line rest : List ℕ) : Type 0 where
   pub shorter : length rest < length script
   pub bytes : (script ≡ line ++ 10 ∷ rest) ⊎ ((script ≡ line) × (rest ≡ []))
   pub adds : (lines : List (List ℕ)) → LinesOf rest lines → LinesOf script (line ∷ lines)
+
+-- a line stands from one place up to the next line's, so it comes before the lines from there on
+pub record NextLine (script : List ℕ) (from : ℕ) (line : List ℕ) (next : ℕ) : Type 0 where
+  pub forward : from < next
+  pub within : next ≤ length script
+  pub adds : (lines : List (List ℕ)) → LinesOf (drop next script) lines → LinesOf (drop from script) (line ∷ lines)
 
 -- the bytes of the lines that are still to come
 abbrev pub left : Lines → List ℕ

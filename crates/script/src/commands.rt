@@ -5,7 +5,7 @@ ghost use Rattle.script.specs.Marks.{Stand};
 ghost use Rattle.script.specs.Verbs.{Follows};
 
 use crate::arguments::{read_wanted, sole, verb_first};
-use crate::marks::{Mark, mark_line};
+use crate::marks::{Mark, Marks, mark_line};
 use crate::verbs::Verb;
 use labels::names::Name;
 
@@ -65,7 +65,8 @@ pub fn read_command(line: &[u8]) -> Option<Command>
         ((command : Command) → IsCommand line.now command → ⊥)
         (IsCommand line.now) }
 {
-    let marks = mark_line(line)?;
+    let mut marks = Marks::new();
+    mark_line(line, &mut marks)?;
     let (verb, arguments) = verb_first(line, marks.as_slice())?;
     read_arguments(line, verb, arguments)
 }

@@ -1,12 +1,12 @@
 //! The lines of a script.
-ghost use Rattle.std.specs.Prelude.{◌≡◌, [], length, MatchOption, ⊤};
+ghost use Rattle.std.specs.Prelude.{◌≡◌, [], length, drop, MatchOption, ⊤};
 ghost use Rattle.std.specs.Iterator.{at_most};
-ghost use Rattle.script.specs.Lines.{FirstLine, LinesOf, left};
+ghost use Rattle.script.specs.Lines.{FirstLine, LinesOf, NextLine, left};
 
 use crate::cuts::cut;
 
 /// The lines of a script that are still to come, each without the byte 10 at its end.
-#[derive(Drop)]
+#[derive(Clone, Drop)]
 pub struct Lines<'a> {
     rest: &'a [u8],
 }
@@ -39,4 +39,25 @@ impl<'a> Iterator for Lines<'a> {
         self.rest = rest.unwrap_or(&[]);
         Some(line)
     }
+}
+
+/// A line of a script, without the byte 10 at its end, and where the next line begins.
+#[derive(Clone, Copy, PartialEq, Eq, Debug)]
+pub struct Line<'a> {
+    pub bytes: &'a [u8],
+    pub next: usize,
+}
+
+/// The line that begins at the place; none where the script has no byte from there on.
+pub fn line_at<'a>(script: &'a [u8], from: usize) -> Option<Line<'a>>
+    ensures { MatchOption result
+        (LinesOf (drop from script.now) [])
+        (λ line. NextLine script.now from line.bytes.now line.next) }
+{
+    let mut lines = Lines::new(script.get(from..)?);
+    let bytes = lines.next()?;
+    Some(Line {
+        bytes,
+        next: script.len() - lines.rest.len(),
+    })
 }

@@ -22,6 +22,10 @@ where
         → WritesOnOk W.write_str_gives f.old result (parted show none.now all) f.new }
 {
     let Some(first) = items.next() else {
+        // an empty text would still be a call of the writer, which may refuse it
+        if none.is_empty() {
+            return Ok(());
+        }
         return write!(f, "{none}");
     };
     write!(f, "{first}")?;

@@ -1,13 +1,29 @@
 //! Lines that are forms, and lines that are none.
 use script::commands::{Command, read_command};
 use script::descriptions::{Description, read_description};
-use script::lines::Lines;
+use script::lines::{Line, Lines, line_at};
 use script::openings::read_opening;
 use std::array;
 
 // Whether each line is a command, or none is.
 fn all_commands(script: &[u8], wanted: bool) -> bool {
     Lines::new(script).all(|line| read_command(line).is_some() == wanted)
+}
+
+#[test]
+fn lines_by_their_places(rt: HostRuntime) {
+    let script = b"show\n\nrest";
+    for (from, bytes, next) in [
+        (0, b"show".as_slice(), 5),
+        (2, b"ow", 5),
+        (5, b"", 6),
+        (6, b"rest", 10),
+    ] {
+        assert_eq!(rt; line_at(script, from), Some(Line { bytes, next }));
+    }
+    for from in [10, 11, usize::MAX] {
+        assert_eq!(rt; line_at(script, from), None);
+    }
 }
 
 #[test]

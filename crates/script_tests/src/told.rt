@@ -1,6 +1,7 @@
 //! The text of slots and of groups.
 use script::groups::Group;
 use script::ranges::Ranges;
+use std::fmt::{self, Write};
 use std::test::Fail;
 
 #[test]
@@ -21,4 +22,21 @@ fn groups(rt: HostRuntime) -> Result<(), Fail> {
     let nobody = Group(&row[0..1]);
     assert!(rt; format!(in rt.alloc(); "{nobody}")?.as_str() == "");
     Ok(())
+}
+
+// A writer that takes no byte.
+#[derive(Drop)]
+struct Refuses;
+
+impl Write for Refuses {
+    fn write_str(&mut self, _text: &str) -> fmt::Result {
+        Err(fmt::Error)
+    }
+}
+
+#[test]
+fn nobody_is_not_written(rt: HostRuntime) {
+    let mut writer = Refuses;
+    assert!(rt; write!(writer, "{}", Group(&[false])).is_ok());
+    assert!(rt; write!(writer, "{}", Group(&[true])).is_err());
 }

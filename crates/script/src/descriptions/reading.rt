@@ -6,7 +6,7 @@ ghost use Rattle.script.specs.Verbs.{verb_word};
 
 use crate::arguments::{argument_at, sole, verb_first};
 use crate::descriptions::{Description, Parents};
-use crate::marks::{Beyond, Mark, mark_line};
+use crate::marks::{Beyond, Mark, Marks, mark_line};
 use crate::verbs::Verb;
 
 impl Parents {
@@ -58,7 +58,8 @@ pub fn read_description(line: &[u8]) -> Option<Description>
         ((fabric : Description) → IsDescription line.now fabric → ⊥)
         (IsDescription line.now) }
 {
-    let marks = mark_line(line)?;
+    let mut marks = Marks::new();
+    mark_line(line, &mut marks)?;
     let (verb, arguments) = verb_first(line, marks.as_slice())?;
     read_fabric(line, verb, arguments, marks.beyond())
 }

@@ -33,8 +33,8 @@ impl Beyond {
 }
 
 impl Marks {
-    // Those of a line whose words are still to be read.
-    fn new() -> Marks
+    /// Those of a line whose words are still to be read.
+    pub(crate) fn new() -> Marks
         ensures { (line : List ℕ) → Marked line result [] }
     {
         Marks {
@@ -68,13 +68,14 @@ impl Marks {
     }
 }
 
-/// The marks of the line's words; none where a part between its spaces is no word.
-pub(crate) fn mark_line(line: &[u8]) -> Option<Marks>
+/// Marks the line's words; none where a part between its spaces is no word.
+// The marks are lent: handed out in an option, their three kilobytes would be cleared and copied anew on the way to each reader.
+pub(crate) fn mark_line(line: &[u8], marks: &mut Marks) -> Option<()>
+    requires { Marked line.now marks.old [] }
     ensures { MatchOption result
         (AllByRecursion IsWord (parts line.now) → ⊥)
-        (λ marks. Marked line.now marks (parts line.now)) }
+        (λ done. Marked line.now marks.new (parts line.now)) }
 {
-    let mut marks = Marks::new();
     let mut from = 0;
     for part in line.split(|byte| *byte == b' ') {
         let to = from + part.len();
@@ -85,5 +86,5 @@ pub(crate) fn mark_line(line: &[u8]) -> Option<Marks>
         });
         from = to + 1;
     }
-    Some(marks)
+    Some(())
 }

@@ -5,16 +5,19 @@ use Rattle.script.proofs.FormWords.{told_by, follows, no_verb}
 use Rattle.script.proofs.PartLists.{cases_weaker}
 use Rattle.script.proofs.commands.read_command.Goals as goal
 
-pub returns-in_err-marks : goal.returns-in_err-marks
-returns-in_err-marks c =
-    rw c.from_residual.ensures (λ command is. c.in_err-marks.ensures (parts_words _ command is))
+pub mark_line-requires : goal.mark_line-requires
+mark_line-requires c = c.new-marks.ensures _
+
+pub returns-in_err-mark_line : goal.returns-in_err-mark_line
+returns-in_err-mark_line c =
+    rw c.from_residual.ensures (λ command is. c.in_err-mark_line.ensures (parts_words _ command is))
 
 pub returns-in_err-verb : goal.returns-in_err-verb
 returns-in_err-verb c =
     rw c.from_residual-in_err-verb.ensures
     (λ command is.
     let form = formed command in
-    no_verb _ _ c.in_ok-marks.ensures _ c.as_slice.ensures c.in_err-verb.ensures form.verb form.others (command_parts _ command is ∙ form.first))
+    no_verb _ _ c.in_ok-mark_line.ensures _ c.as_slice.ensures c.in_err-verb.ensures form.verb form.others (command_parts _ command is ∙ form.first))
 
 pub returns : goal.returns
 returns c =
@@ -24,6 +27,6 @@ returns c =
     c.read_arguments.ensures
     (λ none command is.
     let form = formed command in
-    none command is.0 (follows _ _ c.in_ok-marks.ensures _ _ first c.as_slice.ensures whole _ here (command_words command) (omega (arith, ap length form.first)) (command_parts _ command is) (omega (arith, form.few))))
+    none command is.0 (follows _ _ c.in_ok-mark_line.ensures _ _ first c.as_slice.ensures whole _ here (command_words command) (omega (arith, ap length form.first)) (command_parts _ command is) (omega (arith, form.few))))
     (λ command spelled.
-    spelled_parts _ command spelled.0 (told_by _ _ c.in_ok-marks.ensures _ _ first c.as_slice.ensures whole _ here (command_words command) (omega (arith, (formed command).few)) spelled.1))
+    spelled_parts _ command spelled.0 (told_by _ _ c.in_ok-mark_line.ensures _ _ first c.as_slice.ensures whole _ here (command_words command) (omega (arith, (formed command).few)) spelled.1))

@@ -20,7 +20,7 @@ loop-part-init c =
         refl,
         yields_of (YieldsList-from_slice_split _ (λ byte. byte == 32) c.args.line.now c.split-part-items.ensures.rest c.split-part-items.ensures.done c.split-part-items.ensures.closure (λ x r q k. search (rules, tests))),
         all_ahead c.args.line.now _ refl,
-        c.new-marks.ensures _,
+        c.requires,
       ),
     )
 

@@ -1,6 +1,7 @@
 -- Sets of flows below 64, lists of one value or with one value put in, and groups with one replaced.
 use Rattle.std.proofs.Common.{◌≡◌, ℕ, zero, suc, ◌^◌, ◌<◌, true, cond, eqb, List, [], ◌∷◌, length, get_or, set, replicate, sym, ap, ◌∙◌, ⊎_elim}
 use Rattle.std.proofs.lemmas.List.{get_or-set_same, get_or-set_other}
+use Rattle.std.proofs.lemmas.Float.{T_from_true}
 use Rattle.std.proofs.lemmas.Bool.{eq-eqb, ne_eqb, cases_eq, cond-true, cond-false}
 use Rattle.planner.specs.FlowSets.{members}
 use Rattle.planner.specs.Groups.{overlapping}
@@ -8,7 +9,7 @@ use Rattle.planner.specs.declared.flow_sets.FlowSet.{FlowSet}
 use Rattle.planner.proofs.Bits.{bit_below}
 
 pub members_below : (s : FlowSet) → s.0 < 2 ^ 64 → (k : ℕ) → members s k ≡ true → k < 64
-members_below s fits k e = bit_below s.0 k fits e
+members_below s fits k e = bit_below 64 s.0 k fits (T_from_true _ e)
 
 -- what holds of a and of the default holds of each element of a list of a alone
 pub replicate_holds : {X : Type 0} (P : X → Type 0) (n k : ℕ) (a d : X) → P a → P d → P (get_or (replicate n a) k d)

@@ -1,6 +1,6 @@
 -- Links in words of 64 bits.
-use Rattle.std.proofs.Common.{◌≡◌, ℕ, ◌+◌, ◌*◌, ◌/◌, ◌%◌, ◌^◌, ◌<◌, ◌≤◌, true, false, cond, eqb, List, length, get_or, set, sym, ap, ◌∙◌, subst, ⊎_elim, arith, get_or-set_other, get_or-set_same}
-use lib.Bits.{bit_or}
+use Rattle.std.proofs.Common.{◌≡◌, ℕ, ◌+◌, ◌*◌, ◌/◌, ◌%◌, ◌^◌, ◌<◌, ◌≤◌, true, false, cond, not, eqb, List, length, get_or, set, sym, ap, ◌∙◌, subst, ⊎_elim, arith, get_or-set_other, get_or-set_same, ne_eqb}
+use lib.Bits.{bit_and, bit_or}
 use Rattle.std.proofs.lemmas.List.{get_or_past}
 use Rattle.std.proofs.lemmas.Bool.Decides.{eqb_tells, nat_tests}
 use Rattle.std.proofs.lemmas.Bool.{cases_lt, both_ways}
@@ -9,7 +9,7 @@ use Rattle.std.specs.List.{zip, AllWithin, HoldsAt}
 use Rattle.planner.specs.declared.link_sets.LinkSet.{LinkSet}
 use Rattle.planner.specs.FlowSets.{bit}
 use Rattle.planner.specs.LinkSets.{crossing}
-use Rattle.planner.proofs.Bits.{bit_insert, bit_none}
+use Rattle.planner.proofs.Bits.{bit_insert, bit_none, meet_tells}
 
 -- one link more
 pub insert_at : (ws : List ℕ) (l k : ℕ) → length ws ≡ 4 → l < 256 →
@@ -28,11 +28,26 @@ insert_at ws l k four small =
     ∙ ap (λ b. cond b true (bit (get_or ws (k / 64) 0) (k % 64))) (sym other))
     (eqb_tells (k / 64) (l / 64))
 
+-- a bit that two words have is a link of both
+linked : (xs ys : List ℕ) (w n : ℕ) → n < 64 → bit (get_or xs w 0) n ≡ true → bit (get_or ys w 0) n ≡ true →
+    (k : ℕ) × (bit (get_or xs (k / 64) 0) (k % 64) ≡ true) × (bit (get_or ys (k / 64) 0) (k % 64) ≡ true)
+linked xs ys w n l a b =
+    let word : (w * 64 + n) / 64 ≡ w = omega (arith, l) in
+    let place : (w * 64 + n) % 64 ≡ n = omega (arith, l) in
+    (w * 64 + n, rw (word, place) a, rw (word, place) b)
+
+-- two words with a common bit have a common link
+pub common_link : (xs ys : List ℕ) (w : ℕ) → get_or xs w 0 < 2 ^ 64 → (bit_and (get_or xs w 0) (get_or ys w 0) ≡ 0 → ⊥) →
+    (k : ℕ) × (bit (get_or xs (k / 64) 0) (k % 64) ≡ true) × (bit (get_or ys (k / 64) 0) (k % 64) ≡ true)
+common_link xs ys w fits some =
+    let both = (meet_tells (get_or xs w 0) (get_or ys w 0) fits).0 (ap not (ne_eqb _ 0 some)) in
+    linked xs ys w both.0 both.1 both.2 both.3
+
 -- two words have a bit in common
 abbrev pub Meet : ℕ × ℕ → Type 0
 Meet p = (n : ℕ) × (n < 64) × (bit p.0 n ≡ true) × (bit p.1 n ≡ true)
 
--- words of two sets that meet have a common link
+-- as have words of two sets that meet
 module _ (xs ys : List ℕ) (same : length xs ≡ length ys) where
   pairs : (w : ℕ) → w < length xs → get_or (zip xs ys) w (0, 0) ≡ (get_or xs w 0, get_or ys w 0)
   pairs w l = get_or-zip xs ys w (0, 0) l (omega arith)
@@ -40,12 +55,8 @@ module _ (xs ys : List ℕ) (same : length xs ≡ length ys) where
   size : length (zip xs ys) ≡ length xs
   size = let e = length-zip xs ys in omega arith
 
-  pub common_link : (w : ℕ) → w < length (zip xs ys) → HoldsAt Meet (zip xs ys) w → (k : ℕ) × (bit (get_or xs (k / 64) 0) (k % 64) ≡ true) × (bit (get_or ys (k / 64) 0) (k % 64) ≡ true)
-  common_link w l met =
-      let m = subst Meet (pairs w (omega (arith, size))) (met (0, 0)) in
-      let word : (w * 64 + m.0) / 64 ≡ w = omega (arith, m.1) in
-      let place : (w * 64 + m.0) % 64 ≡ m.0 = omega (arith, m.1) in
-      (w * 64 + m.0, rw (word, place) m.2, rw (word, place) m.3)
+  pub meeting_link : (w : ℕ) → w < length (zip xs ys) → HoldsAt Meet (zip xs ys) w → (k : ℕ) × (bit (get_or xs (k / 64) 0) (k % 64) ≡ true) × (bit (get_or ys (k / 64) 0) (k % 64) ≡ true)
+  meeting_link w l met = let m = subst Meet (pairs w (omega (arith, size))) (met (0, 0)) in linked xs ys w m.0 m.1 m.2 m.3
 
   -- and where none meet there is none
   pub no_common : AllWithin (λ p. Meet p → ⊥) (zip xs ys) 0 (length (zip xs ys)) → (k : ℕ) → k / 64 < length xs →

@@ -27,7 +27,7 @@ cond_same false false x e = refl
 
 -- a set of 64 has no flow from 64 on
 pub past_flows : (set : FlowSet) (f : ℕ) → set.0 < 2 ^ 64 → 64 ≤ f → members set f ≡ false
-past_flows set f fits past = bit_above set.0 f fits past
+past_flows set f fits past = bit_above 64 set.0 f fits past
 
 -- a test that finds a flow of k in the slot, and only then, says whether the slot is taken
 pub taken_is : (t : ℕ → ℕ → Bool) (n : ℕ) (k : ℕ → Bool) (s : ℕ) (b : Bool) → Decides b ((f : ℕ) × (f < n) × (t f s ≡ true) × (k f ≡ true)) → b ≡ taken t n k s

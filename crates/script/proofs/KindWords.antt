@@ -12,7 +12,7 @@ use Rattle.labels.specs.declared.names.Name.{Name as Called}
 use Rattle.script.specs.declared.words.Kind.TheVariants.{Name, Number}
 use Rattle.script.specs.declared.verbs.Verb.{Verb}
 use Rattle.script.specs.Verbs.{verb_word}
-use Rattle.script.specs.Words.{Short, IsNumber, IsWord, parts, spaced}
+use Rattle.script.specs.Words.{Short, IsNumber, IsWord, WordsOf, parts, spaced}
 use Rattle.script.proofs.PartLists.{Free, parts_spaced}
 use Rattle.script.proofs.VerbWords.{verb_spelling}
 
@@ -43,3 +43,7 @@ pub parts_are : (line : List ℕ) (words : List (List ℕ)) → 1 ≤ length wor
 parts_are line [] some all same = absurd (omega arith)
 parts_are line (word ∷ words) some all same =
     ap parts same ∙ parts_spaced word words (word_free word all.0) (All-weaker IsWord Free word_free words all.1)
+
+-- so a line is words in one way
+pub same_words : (line : List ℕ) (us vs : List (List ℕ)) → WordsOf line us → WordsOf line vs → us ≡ vs
+same_words line us vs p q = sym (parts_are line us p.some p.each p.whole) ∙ parts_are line vs q.some q.each q.whole

@@ -7,22 +7,26 @@ use Rattle.std.proofs.lemmas.List.{drop_all, drop-drop, drop-append-le}
 use Rattle.std.proofs.lemmas.Bool.{cases_eq}
 use Rattle.script.specs.Lines.{Unbroken, ended, last_line, LinesOf, FirstLine, NextLine, LinesStand}
 
--- nothing, or byte 10 and more
-abbrev Parted : List ℕ → Type 0
-Parted [] = Unit {0}
-Parted (byte ∷ bytes) = byte ≡ 10
+-- the stop is not among the bytes: byte 10 is that of a line
+abbrev pub Free : ℕ → List ℕ → Type 0
+Free stop bytes = AllByRecursion (λ byte. byte ≡ stop → ⊥) bytes
 
--- the bytes before the first byte 10 are the same
-cut_same : (w v r s : List ℕ) → Unbroken w → Unbroken v → Parted r → Parted s → w ++ r ≡ v ++ s → (w ≡ v) × (r ≡ s)
-cut_same [] [] r s fw fv pr ps e = (refl, e)
-cut_same [] (b ∷ v) [] s fw fv pr ps e = let z : ◌≡◌ {A = ℕ} 0 1 = cc in absurd (omega arith)
-cut_same [] (b ∷ v) (c ∷ r) s fw fv pr ps e = let same : c ≡ b = cc in absurd (fv.0 (sym same ∙ pr))
-cut_same (a ∷ w) [] r [] fw fv pr ps e = let z : ◌≡◌ {A = ℕ} 0 1 = cc in absurd (omega arith)
-cut_same (a ∷ w) [] r (c ∷ s) fw fv pr ps e = let same : a ≡ c = cc in absurd (fw.0 (same ∙ ps))
-cut_same (a ∷ w) (b ∷ v) r s fw fv pr ps e =
+-- nothing, or a stop and more
+abbrev pub Parted : ℕ → List ℕ → Type 0
+Parted stop [] = Unit {0}
+Parted stop (byte ∷ bytes) = byte ≡ stop
+
+-- the bytes before the first stop are the same
+pub cut_same : (stop : ℕ) (w v r s : List ℕ) → Free stop w → Free stop v → Parted stop r → Parted stop s → w ++ r ≡ v ++ s → (w ≡ v) × (r ≡ s)
+cut_same stop [] [] r s fw fv pr ps e = (refl, e)
+cut_same stop [] (b ∷ v) [] s fw fv pr ps e = let z : ◌≡◌ {A = ℕ} 0 1 = cc in absurd (omega arith)
+cut_same stop [] (b ∷ v) (c ∷ r) s fw fv pr ps e = let same : c ≡ b = cc in absurd (fv.0 (sym same ∙ pr))
+cut_same stop (a ∷ w) [] r [] fw fv pr ps e = let z : ◌≡◌ {A = ℕ} 0 1 = cc in absurd (omega arith)
+cut_same stop (a ∷ w) [] r (c ∷ s) fw fv pr ps e = let same : a ≡ c = cc in absurd (fw.0 (same ∙ ps))
+cut_same stop (a ∷ w) (b ∷ v) r s fw fv pr ps e =
     let first : a ≡ b = cc in
     let rest : w ++ r ≡ v ++ s = cc in
-    let more = cut_same w v r s fw.1 fv.1 pr ps rest in
+    let more = cut_same stop w v r s fw.1 fv.1 pr ps rest in
     ((λ i. first i ∷ more.0 i), more.1)
 
 -- nothing is no line
@@ -154,7 +158,7 @@ same_lines [] [] r s all-us all-vs ur us' e = (refl, e)
 same_lines [] (v ∷ vs) r s all-us all-vs ur us' e = absurd (ends_in v (ended vs ++ s) r ur (e ∙ first_ended v vs s))
 same_lines (u ∷ us) [] r s all-us all-vs ur us' e = absurd (ends_in u (ended us ++ r) s us' (sym e ∙ first_ended u us r))
 same_lines (u ∷ us) (v ∷ vs) r s all-us all-vs ur us' e =
-    let cut = cut_same u v (10 ∷ (ended us ++ r)) (10 ∷ (ended vs ++ s)) all-us.0 all-vs.0 refl refl (sym (first_ended u us r) ∙ e ∙ first_ended v vs s) in
+    let cut = cut_same 10 u v (10 ∷ (ended us ++ r)) (10 ∷ (ended vs ++ s)) all-us.0 all-vs.0 refl refl (sym (first_ended u us r) ∙ e ∙ first_ended v vs s) in
     let tail : ended us ++ r ≡ ended vs ++ s = ap (drop 1) cut.1 in
     let more = same_lines us vs r s all-us.1 all-vs.1 ur us' tail in
     ((λ i. cut.0 i ∷ more.0 i), more.1)

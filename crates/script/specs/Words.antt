@@ -1,6 +1,6 @@
 -- The words of a script: names, which are 1 to 8 letters a to z, and numbers from 0 to 65,535.
-use Rattle.std.specs.Prelude.{◌≡◌, ℕ, ◌^◌, ◌<◌, List, [], ◌∷◌, ◌++◌, codes, decimal, ◌==◌}
-use Rattle.std.specs.List.{flat_map, slice_split}
+use Rattle.std.specs.Prelude.{◌≡◌, ℕ, ◌^◌, ◌<◌, ◌≤◌, List, [], ◌∷◌, ◌++◌, length, codes, decimal, ◌==◌}
+use Rattle.std.specs.List.{flat_map, slice_split, AllByRecursion}
 use Rattle.labels.specs.Spellings.{Spelling}
 use Rattle.script.specs.declared.words.Kind.{Kind}
 use Rattle.script.specs.declared.words.Kind.TheVariants.{Name as OfLetters, Number as OfDigits}
@@ -36,6 +36,12 @@ word_bytes (Number n) = decimal n
 abbrev pub spaced : List (List ℕ) → List ℕ
 spaced [] = []
 spaced (word ∷ words) = word ++ flat_map (λ next. codes " " ++ next) words
+
+-- the line is these words, one or more
+pub record WordsOf (line : List ℕ) (words : List (List ℕ)) : Type 0 where
+  pub some : 1 ≤ length words
+  pub each : AllByRecursion IsWord words
+  pub whole : line ≡ spaced words
 
 -- the parts of a line between its spaces
 abbrev pub parts : List ℕ → List (List ℕ)

@@ -6,4 +6,4 @@ pub returns : goal.returns
 returns c =
     let l : c.args.self.0 < 2 ^ 64 = search rules in
     let m : c.args.other.0 < 2 ^ 64 = search rules in
-    λ k. bit_without c.args.self.0 c.args.other.0 k l m
+    λ k. bit_without 64 c.args.self.0 c.args.other.0 k l m

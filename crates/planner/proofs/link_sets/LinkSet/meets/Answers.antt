@@ -6,7 +6,7 @@ use Rattle.std.proofs.lemmas.Bool.{false≢true}
 use Rattle.std.proofs.lemmas.Iterator.{YieldsList-from_slice, YieldsList-from_zip, cases_from_any}
 use Rattle.planner.specs.declared.link_sets.LinkSet.{LinkSet}
 use Rattle.planner.specs.LinkSets.{crossing, share}
-use Rattle.planner.proofs.LinkBits.{Meet, common_link, no_common, crossing_below}
+use Rattle.planner.proofs.LinkBits.{Meet, meeting_link, no_common, crossing_below}
 use Rattle.planner.proofs.Sharing.{share_from, share_none}
 use Rattle.planner.proofs.link_sets.LinkSet.meets.Goals as goal
 
@@ -16,7 +16,7 @@ module _ (mine its : LinkSet) (four : length mine.words ≡ 4) (same : length mi
       (AllWithin (λ p. Meet p → ⊥) (zip mine.words its.words) 0 (length (zip mine.words its.words))) →
       Decides b ((k : ℕ) × (crossing mine k ≡ true) × (crossing its k ≡ true)) × (b ≡ share (crossing mine) (crossing its))
   links true told =
-      let some = common_link mine.words its.words same told.0 told.1 told.2 in (
+      let some = meeting_link mine.words its.words same told.0 told.1 told.2 in (
         (λ _. some, λ _. refl),
         sym (share_from (crossing mine) (crossing its) some.0 (crossing_below mine some.0 four some.1) some.1 some.2),
       )

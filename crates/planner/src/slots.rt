@@ -46,8 +46,8 @@ impl SlotTable {
     fn valid_count(&self, beside: FlowSet, period: u8) -> usize
         ensures { result ≡ count (free (holds self.now) 64 (members beside)) period }
     {
-        // a loop with one way out, which the compiler runs over several slots at a time: of `filter` and `count` it makes two loops,
-        // one in the other, that take them one by one, and a re-plan counts the whole period for each flow
+        // a `for`, which the compiler runs over several slots at a time: of `filter` and `count` it made two loops that go slot by
+        // slot, and a re-plan counts the whole period for each flow
         let mut valid = 0;
         for flows in &self.slots[..usize::from(period)] {
             if !flows.intersects(beside) {

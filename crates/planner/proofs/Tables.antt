@@ -1,11 +1,11 @@
 -- Lists of sets of flows, as tables hold them.
-use Rattle.std.proofs.Common.{◌≡◌, ℕ, zero, suc, ◌+◌, ◌^◌, ◌<◌, ◌≤◌, Bool, true, false, cond, not, ◌&&◌, Decides, eqb, ltb, List, length, get_or, set, replicate, sym, refl, ap, ◌∙◌, ⊎_elim, arith}
+use Rattle.std.proofs.Common.{◌≡◌, ℕ, zero, suc, ◌+◌, ◌^◌, ◌<◌, ◌≤◌, Bool, true, false, cond, ◌&&◌, Decides, eqb, ltb, List, length, get_or, set, replicate, sym, refl, ap, ◌∙◌, ⊎_elim, arith}
 use Rattle.std.proofs.lemmas.List.{get_or_past, get_or-set_same, get_or-set_other}
 use Rattle.planner.specs.declared.flow_sets.FlowSet.{FlowSet}
 use Rattle.planner.specs.FlowSets.{members}
 use Rattle.std.proofs.lemmas.Bool.{false≢true, cases_Bool, and_parts, and_right, eq-eqb, ne_eqb, lt-ltb, le-ltb, cond-true, cond-false, cases_eq}
 use Rattle.std.proofs.lemmas.Bool.Decides.{nat_tests}
-use Rattle.planner.specs.Slots.{taken, free}
+use Rattle.planner.specs.Slots.{taken}
 use Rattle.planner.proofs.Bits.{bit_above}
 pub use Rattle.planner.proofs.Bits.{bit_none}
 use Rattle.planner.proofs.Held.{taken_from, taken_gives}
@@ -39,11 +39,6 @@ taken_is t n k s false tells = ⊎_elim
     absurd (false≢true (tells.1 (found.0, found.1, parts.1, parts.0))))
     (λ none. sym none)
     (cases_Bool (taken t n k s))
-
--- and one that finds none whether it is free
-pub free_is : (t : ℕ → ℕ → Bool) (n : ℕ) (k : ℕ → Bool) (s : ℕ) (b : Bool) → Decides (not b) ((f : ℕ) × (f < n) × (t f s ≡ true) × (k f ≡ true)) → b ≡ free t n k s
-free_is t n k s true tells = ap not (taken_is t n k s false tells)
-free_is t n k s false tells = ap not (taken_is t n k s true tells)
 
 -- another number than m is below m + 1 just if it is below m
 pub below_more : (k m : ℕ) → (k ≡ m → ⊥) → ltb k (m + 1) ≡ ltb k m

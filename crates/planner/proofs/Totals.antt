@@ -1,5 +1,5 @@
 -- Sums and counts over a set.
-use Rattle.std.proofs.Common.{◌≡◌, ℕ, zero, suc, ◌+◌, ◌<◌, ◌≤◌, min, Bool, true, false, cond, not, ◌&&◌, ◌||◌, eqb, ltb, sym, refl, ap, ◌∙◌, subst, ⊎_elim, add-one, List, ◌∷◌, [], filter, take, length, get_or, arith}
+use Rattle.std.proofs.Common.{◌≡◌, ℕ, zero, suc, ◌+◌, ◌<◌, ◌≤◌, min, Bool, true, false, cond, not, ◌&&◌, ◌||◌, eqb, ltb, sym, refl, ap, ◌∙◌, subst, ⊎_elim, add-one, arith}
 use Rattle.std.proofs.lemmas.Bool.{eqb-true, eq-eqb, ne_eqb, cases_Bool, cases_eq, cases_lt, cond-true, cond-false, cond_both, ltb-true, ltb-false}
 use Rattle.planner.specs.Orders.{without}
 use Rattle.planner.specs.Slots.{total, count}
@@ -13,24 +13,6 @@ total_start d p = refl
 pub total_more : (d : ℕ → ℕ) (p : ℕ → Bool) (n : ℕ) → total d p (n + 1) ≡ total d p n + cond (p n) (d n) 0
 unfolding total
 total_more d p n = ap (total d p) (add-one n) ∙ omega arith
-
-length_more : {A : Type 0} (b : Bool) (x : A) (xs : List A) → length (cond b (x ∷ xs) xs) ≡ length xs + cond b 1 0
-length_more true x xs = sym (add-one (length xs))
-length_more false x xs = omega arith
-
--- a count, as the length of a list of those counted among the first things of a list
-module _ {A : Type 0} (q : A → Bool) (p : ℕ → Bool) where
-  pub counted_first : (xs : List A) (d : A) (a n : ℕ) → n ≤ length xs → ((i : ℕ) → i < n → q (get_or xs i d) ≡ p (a + i)) → length (filter q (take n xs)) + count p a ≡ count p (a + n)
-  counted_first xs d a zero room same = let is : count p (a + 0) ≡ count p a = ap (count p) (omega arith) in omega arith
-  counted_first [] d a (suc n) room same = absurd (omega arith)
-  counted_first (x ∷ xs) d a (suc n) room same =
-      let rest = counted_first xs d (a + 1) n (omega arith) (λ i l. same (suc i) (omega arith) ∙ ap p (omega arith)) in
-      let more = total_more (λ _. 1) p a in
-      let here = length_more (q x) x (filter q (take n xs)) in
-      let one : q x ≡ p a = same 0 (omega arith) ∙ ap p (omega arith) in
-      let tells : ◌≡◌ {A = ℕ} (cond (q x) 1 0) (cond (p a) 1 0) = ap (λ b. cond b 1 0) one in
-      let is : count p (a + 1 + n) ≡ count p (a + suc n) = ap (count p) (omega arith) in
-      omega arith
 
 or_apart : (a b : Bool) (x : ℕ) → (a ≡ true → b ≡ true → ⊥) → cond (a || b) x 0 ≡ cond a x 0 + cond b x 0
 or_apart true true x apart = absurd (apart refl refl)

@@ -54,8 +54,13 @@ impl Bookings {
     pub(crate) fn demands(&self) -> [u16; 64]
         ensures { (n : ℕ) → slice_index result n ≡ demand_of (booked_flow (booking_at self.now n)) }
     {
-        self.entries
-            .map(|entry| entry.map_or(0, |booking| booking.flow.demand))
+        // asked one by one, as `map` would move all that is booked
+        array::from_fn(
+            |n|
+                requires { n < 64 }
+                ensures { result ≡ demand_of (booked_flow (booking_at self.entry.now n)) }
+            { self.entries[n].map_or(0, |booking| booking.flow.demand) },
+        )
     }
 
     // Whether a flow is booked under the number whose route shares a link with the one of these links.

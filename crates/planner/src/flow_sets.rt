@@ -26,7 +26,11 @@ impl FlowSet {
     pub fn contains_flow(self, number: u16) -> bool
         ensures { result ≡ members self number }
     {
-        FlowNumber::new(number).is_some_and(|flow| self.contains(flow))
+        // no option between: a number that is no flow's would still be made one, and shifted by, before it is turned away
+        number < 64
+            && self.contains(FlowNumber {
+                number: number as u8,
+            })
     }
 
     pub(crate) fn insert(&mut self, flow: FlowNumber)

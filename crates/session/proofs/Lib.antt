@@ -1,6 +1,7 @@
 mod FromFn
 mod Booking
 mod Naming
+mod Obedience
 mod Handing
 mod Turns
 mod Flows

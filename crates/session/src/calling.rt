@@ -34,6 +34,7 @@ pub(crate) fn allows(running: bool, call: Call) -> bool
 }
 
 /// Makes a call that is no fit, where the plan stands.
+// `replace_with` is `core`'s alone: `std::mem` does not pass it on.
 pub(crate) fn make<F: Fabric + Drop>(plan: &mut AnyPlan<F>, call: Call) -> Result<(), ScriptFault>
     requires { (d : Module) → call ≢ Fit d }
     ensures { (labels : List (Option Name)) → Calls (record { shown = any_shows F.Fabric.meaning plan.old; labels = labels }) call result (record { shown = any_shows F.Fabric.meaning plan.new; labels = labels }) }

@@ -40,9 +40,10 @@ no_lines lines is =
     let none = no_bytes is.whole is.rest is.bytes in
     is.all ∙ (λ i. none.0 i ++ last_line (none.1 i))
 
--- no byte is no line
-pub none_left : LinesOf [] []
-none_left = record { whole = []; rest = []; each = tt; unbroken = tt; bytes = refl; all = refl }
+-- past the last byte there is none
+pub none_left : (script : List ℕ) (from : ℕ) → length script ≤ from → LinesOf (drop from script) []
+none_left script from past =
+    record { whole = []; rest = []; each = tt; unbroken = tt; bytes = drop_all from script past; all = refl }
 
 last_is : (line : List ℕ) → 1 ≤ length line → last_line line ≡ line ∷ []
 last_is [] some = absurd (omega arith)
@@ -85,10 +86,6 @@ last script line free same some = record {
 pub first_line : (script line : List ℕ) (after : Option (Bor (List ℕ))) (none : Bor (List ℕ)) → none.now ≡ [] → All (λ byte. byte ≡ 10 → ⊥) line → MatchOption after (script ≡ line) (λ rest. script ≡ line ++ 10 ∷ rest.now) → 1 ≤ length script → FirstLine script line (unwrap_or after none).now
 first_line script line None none empty free same some = subst (FirstLine script line) (sym empty) (last script line free same some)
 first_line script line (Some rest) none empty free same some = one_more script line rest.now free same
-
--- past the last byte there is no line
-pub none_past : (script : List ℕ) (from : ℕ) → length script ≤ from → LinesOf (drop from script) []
-none_past script from past = subst (λ left. LinesOf left []) (sym (drop_all from script past)) none_left
 
 -- bytes end with what stands so far before their end
 ends_with : (bytes front rest : List ℕ) (at : ℕ) → bytes ≡ front ++ rest → at + length rest ≡ length bytes → drop at bytes ≡ rest
